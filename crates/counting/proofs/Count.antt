@@ -1,0 +1,52 @@
+-- Counts over lists that grow, lose a member or have one replaced.
+use Rattle.std.proofs.Common.{◌≡◌, ℕ, zero, suc, ◌+◌, ◌≤◌, Bool, true, false, eqb, cond, List, [], ◌∷◌, ◌++◌, set, sym, refl, ap, arith}
+use Rattle.std.proofs.lemmas.Bool.{eqb-true, eq-eqb}
+use mathlib.Core.Option.{some, some-injective, some-ne-none}
+use lib.ListN.{get_elem?}
+use Rattle.counting.specs.Count.{one_if, times, without, total}
+
+pub one_if-same : (x : ℕ) → one_if (eqb x x) ≡ 1
+one_if-same x = ap one_if (eq-eqb x x refl)
+
+pub times-append : (x : ℕ) (l m : List ℕ) → times x (l ++ m) ≡ times x l + times x m
+times-append x [] m = omega arith
+times-append x (y ∷ l) m = let r = times-append x l m in omega arith
+
+pub times-snoc : (x y : ℕ) (l : List ℕ) → times x (l ++ y ∷ []) ≡ times x l + one_if (eqb x y)
+times-snoc x y [] = omega arith
+times-snoc x y (z ∷ l) = let r = times-snoc x y l in omega arith
+
+without_step : (x y z : ℕ) (l m : List ℕ) (b : Bool) → eqb y z ≡ b → (1 ≤ times y l → times x m + one_if (eqb x y) ≡ times x l) → 1 ≤ one_if b + times y l
+    → times x (cond b l (z ∷ m)) + one_if (eqb x y) ≡ one_if (eqb x z) + times x l
+without_step x y z l m true is r h = let e : one_if (eqb x y) ≡ one_if (eqb x z) = ap (λ (k : ℕ). one_if (eqb x k)) (eqb-true y z is) in omega arith
+without_step x y z l m false is r h = let e = r (omega arith) in omega arith
+
+-- one y less, where there was one
+pub times-without : (x y : ℕ) (l : List ℕ) → 1 ≤ times y l → times x (without y l) + one_if (eqb x y) ≡ times x l
+times-without x y [] h = absurd (omega arith)
+times-without x y (z ∷ l) h = without_step x y z l (without y l) (eqb y z) refl (times-without x y l) h
+
+pub total-append : {A : Type 0} (f : A → ℕ) (l m : List A) → total f (l ++ m) ≡ total f l + total f m
+total-append f [] m = omega arith
+total-append f (x ∷ l) m = let r = total-append f l m in omega arith
+
+pub total-snoc : {A : Type 0} (f : A → ℕ) (l : List A) (w : A) → total f (l ++ w ∷ []) ≡ total f l + f w
+total-snoc f [] w = omega arith
+total-snoc f (x ∷ xs) w = let r = total-snoc f xs w in omega arith
+
+-- the member in place i is replaced
+pub total-set : {A : Type 0} (f : A → ℕ) (l : List A) (i : ℕ) (v w : A) → get_elem? l i ≡ some v → total f (set l i w) + f v ≡ total f l + f w
+total-set f [] i v w e = absurd (some-ne-none v (sym e))
+total-set f (x ∷ xs) zero v w e = let is : f x ≡ f v = ap f (some-injective x v e) in omega arith
+total-set f (x ∷ xs) (suc i) v w e = let r = total-set f xs i v w e in omega arith
+
+-- a lighter weight gives a lesser total
+pub total-mono : {A : Type 0} (f g : A → ℕ) → ((v : A) → f v ≤ g v) → (l : List A) → total f l ≤ total g l
+total-mono f g le [] = omega arith
+total-mono f g le (x ∷ xs) = let r = total-mono f g le xs in let h = le x in omega arith
+
+-- each member weighs at most what all weigh
+pub total-at : {A : Type 0} (f : A → ℕ) (l : List A) (i : ℕ) (v : A) → get_elem? l i ≡ some v → f v ≤ total f l
+total-at f [] i v e = absurd (some-ne-none v (sym e))
+total-at f (x ∷ xs) zero v e = let is : f x ≡ f v = ap f (some-injective x v e) in omega arith
+total-at f (x ∷ xs) (suc i) v e = let r = total-at f xs i v e in omega arith
