@@ -1,7 +1,7 @@
 use Rattle.std.proofs.Common.{◌≡◌, ◌-◌, ◌≤◌, length}
 use Rattle.lar_syntax.specs.Reading.{prints_at}
 use Rattle.lar_syntax.proofs.OneByOne.{with_front}
-use Rattle.lar_syntax.proofs.prints.read_prints.Given as goal
+use Rattle.lar_syntax.proofs.thin_form.read_prints.Given as goal
 
 abbrev pub invariant-loop : goal.invariant-loop
 invariant-loop l = record {

@@ -3,7 +3,7 @@ use Rattle.std.specs.Int.RustNames.{FitsSigned}
 use Rattle.std.proofs.lemmas.Int.{to_z-of_z}
 use Rattle.lar_syntax.specs.Reading.{prints_at}
 use Rattle.lar_syntax.proofs.OneByOne.{goes_on, stops, is_full}
-use Rattle.lar_syntax.proofs.prints.read_prints.Goals as goal
+use Rattle.lar_syntax.proofs.thin_form.read_prints.Goals as goal
 
 pub returns-in_default-clause-prints : goal.returns-in_default-clause-prints
 returns-in_default-clause-prints c =

@@ -1,6 +1,6 @@
 use Rattle.std.proofs.Common.{◌≡◌, ◌≤◌, ◌<◌, ◌^◌, length}
 use Rattle.lar_syntax.specs.Reading.{digits_at}
-use Rattle.lar_syntax.proofs.prints.read_number.Given as goal
+use Rattle.lar_syntax.proofs.thin_form.read_number.Given as goal
 
 abbrev pub invariant-loop-rest : goal.invariant-loop-rest
 invariant-loop-rest l = record {

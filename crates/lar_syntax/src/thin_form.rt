@@ -1,6 +1,17 @@
-ghost use Rattle.std.specs.Prelude.{◌≡◌, ◌≤◌, length, IfOk, IfSome};
+//! The thin form: a file whose `main` prints numbers and does nothing else.
+//!
+//! `fn main() { print(7); print(8); }` has it, with blanks before, between and behind its parts: fn, main, the brackets, and
+//! for each number print, (, the number, ) and ;. At least one blank stands between fn and main. There are at most 1,000 prints,
+//! and a number is at most 9223372036854775807. The form is the first part of the language that is built.
+//!
+//! The reader takes each part from the front and hands on the rest, so it passes over each byte a bounded number of times. Its
+//! contract is twofold: by the grammar, in which nothing is said of an order of reading, and by a function on bytes, which the
+//! crates above cite to say what a command answers.
+
+ghost use Rattle.std.specs.Prelude.{◌≡◌, ◌≤◌, List, ℤ, length, IfOk, IfSome};
 ghost use Rattle.std.specs.Option.{option_map};
-ghost use Rattle.lar_syntax.specs.Reading as spec;
+ghost use Rattle.lar_syntax.specs.Reading as reading;
+ghost use Rattle.lar_syntax.specs.Thin.{IsThin};
 
 use lar_tree::File;
 use std::alloc::{AllocError, Global};
@@ -10,7 +21,7 @@ const MAX_PRINTS: u32 = 1000;
 const MAX_NUMBER: u64 = 9223372036854775807;
 
 fn skip_blanks(bytes: &[u8]) -> &[u8]
-    ensures { result.now ≡ spec.after_blanks bytes.now }
+    ensures { result.now ≡ reading.after_blanks bytes.now }
 {
     let mut rest = bytes;
     while let [b' ' | b'\t' | b'\r' | b'\n', after @ ..] = rest {
@@ -20,7 +31,7 @@ fn skip_blanks(bytes: &[u8]) -> &[u8]
 }
 
 fn skip_word<'a>(word: &[u8], bytes: &'a [u8]) -> Option<&'a [u8]>
-    ensures { option_map (λ rest. rest.now) result ≡ spec.after_word word.now bytes.now }
+    ensures { option_map (λ rest. rest.now) result ≡ reading.after_word word.now bytes.now }
 {
     match word {
         [] => Some(bytes),
@@ -32,13 +43,13 @@ fn skip_word<'a>(word: &[u8], bytes: &'a [u8]) -> Option<&'a [u8]>
 }
 
 fn skip_part<'a>(word: &[u8], bytes: &'a [u8]) -> Option<&'a [u8]>
-    ensures { option_map (λ rest. rest.now) result ≡ spec.part word.now bytes.now }
+    ensures { option_map (λ rest. rest.now) result ≡ reading.part word.now bytes.now }
 {
     skip_word(word, skip_blanks(bytes))
 }
 
 fn read_number(bytes: &[u8]) -> Option<(i64, &[u8])>
-    ensures { option_map (λ x. (x.0, x.1.now)) result ≡ spec.number_at bytes.now }
+    ensures { option_map (λ x. (x.0, x.1.now)) result ≡ reading.number_at bytes.now }
 {
     let mut number = 0u64;
     let mut rest = bytes;
@@ -58,7 +69,7 @@ fn read_number(bytes: &[u8]) -> Option<(i64, &[u8])>
 
 #[tactic(auto, unfolding(crate::specs::Reading::print_at))]
 fn read_print(bytes: &[u8]) -> Option<(i64, &[u8])>
-    ensures { option_map (λ x. (x.0, x.1.now)) result ≡ spec.print_at bytes.now }
+    ensures { option_map (λ x. (x.0, x.1.now)) result ≡ reading.print_at bytes.now }
 {
     let rest = skip_part(b"print", bytes)?;
     let rest = skip_part(b"(", rest)?;
@@ -69,7 +80,7 @@ fn read_print(bytes: &[u8]) -> Option<(i64, &[u8])>
 }
 
 fn read_prints(alloc: Global, bytes: &[u8]) -> Result<(Vec<i64>, &[u8]), AllocError>
-    ensures prints { IfOk result (λ x. (x.0.items, x.1.now) ≡ spec.prints_at 1000 bytes.now) }
+    ensures prints { IfOk result (λ x. (x.0.items, x.1.now) ≡ reading.prints_at 1000 bytes.now) }
     ensures count { IfOk result (λ x. length x.0.items ≤ 1000) }
 {
     let mut numbers = Vec::new(alloc);
@@ -86,7 +97,7 @@ fn read_prints(alloc: Global, bytes: &[u8]) -> Result<(Vec<i64>, &[u8]), AllocEr
 
 #[tactic(auto, unfolding(crate::specs::Reading::head_at))]
 fn read_head(bytes: &[u8]) -> Option<&[u8]>
-    ensures { option_map (λ rest. rest.now) result ≡ spec.head_at bytes.now }
+    ensures { option_map (λ rest. rest.now) result ≡ reading.head_at bytes.now }
 {
     let rest = skip_part(b"fn", bytes)?;
     if skip_blanks(rest).len() == rest.len() {
@@ -99,7 +110,7 @@ fn read_head(bytes: &[u8]) -> Option<&[u8]>
 }
 
 fn is_end(bytes: &[u8]) -> bool
-    ensures { result ≡ spec.is_end bytes.now }
+    ensures { result ≡ reading.is_end bytes.now }
 {
     match skip_part(b"}", bytes) {
         Some(rest) => skip_blanks(rest).is_empty(),
@@ -107,14 +118,27 @@ fn is_end(bytes: &[u8]) -> bool
     }
 }
 
-/// The numbers that a file of prints has, or nothing where the file has another form.
-pub fn thin(alloc: Global, file: &File) -> Result<Option<Vec<i64>>, AllocError>
-    ensures numbers { IfOk result (λ answer. option_map (λ numbers. numbers.items) answer ≡ spec.thin file.now.bytes) }
+fn read(alloc: Global, bytes: &[u8]) -> Result<Option<Vec<i64>>, AllocError>
+    ensures numbers { IfOk result (λ answer. option_map (λ numbers. numbers.items) answer ≡ reading.thin bytes.now) }
     ensures count { IfOk result (λ answer. IfSome answer (λ numbers. length numbers.items ≤ 1000)) }
 {
-    let Some(rest) = read_head(file.bytes.as_slice()) else {
+    let Some(rest) = read_head(bytes) else {
         return Ok(None);
     };
     let (numbers, rest) = read_prints(alloc, rest)?;
     Ok(if is_end(rest) { Some(numbers) } else { None })
+}
+
+/// The numbers that a file in the thin form prints, or nothing where the file has another form.
+/// Only want of memory is an error.
+pub fn thin(alloc: Global, file: &File) -> Result<Option<Vec<i64>>, AllocError>
+    // What is read has the form.
+    ensures found { IfOk result (λ answer. IfSome answer (λ numbers. IsThin file.now.bytes numbers.items)) }
+    // What has the form is read.
+    ensures only { (ns : List ℤ) → IsThin file.now.bytes ns → IfOk result (λ answer. option_map (λ numbers. numbers.items) answer ≡ Some ns) }
+    // The numbers, as the crates above compute them.
+    ensures numbers { IfOk result (λ answer. option_map (λ numbers. numbers.items) answer ≡ reading.thin file.now.bytes) }
+    ensures count { IfOk result (λ answer. IfSome answer (λ numbers. length numbers.items ≤ 1000)) }
+{
+    read(alloc, file.bytes.as_slice())
 }

@@ -1,0 +1,2 @@
+pub mod FilesState
+pub mod SinkState

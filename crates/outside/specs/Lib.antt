@@ -1,0 +1,4 @@
+pub mod CallsState
+pub mod Counts
+pub mod Fronts
+pub mod Held
