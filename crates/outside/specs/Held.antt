@@ -1,7 +1,8 @@
 -- What names hold.
 use Rattle.std.specs.Prelude.{◌≡◌, ◌⊎◌, ℕ, List, take, Option}
 use Rattle.std.specs.Cmp.Lexicographic.{slice_cmp}
-use Rattle.std.specs.FinMap.{FinMap, insert}
+use Rattle.std.specs.Coded.{Coded, coded_list, coded_ℕ}
+use Rattle.std.specs.FinMap.{FinMap, insert, code}
 use Rattle.std.specs.Option.{option_map}
 use Rattle.std.specs.Ordering.{nat_cmp}
 
@@ -16,3 +17,7 @@ stored name bytes told = option_map (λ held. insert held name bytes) told
 -- Nothing changed, or the name holds a front of these bytes, which may be all of them.
 abbrev pub StoresFront : List ℕ → List ℕ → Option Held → Option Held → Type 0
 StoresFront name bytes old new = (new ≡ old) ⊎ ((n : ℕ) × (new ≡ stored name (take n bytes) old))
+
+-- as what a model may show
+abbrev pub coded_held : Coded Held
+coded_held = code (coded_list coded_ℕ) (coded_list coded_ℕ)
