@@ -5,4 +5,7 @@ pub use Rattle.outside.specs.Held
 pub mod FilesState
 pub mod MemoryFilesState
 pub mod MemorySinkState
+pub mod Putting
 pub mod SinkState
+pub mod Status
+pub mod ThinImage

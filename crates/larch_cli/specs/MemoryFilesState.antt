@@ -1,11 +1,12 @@
 -- What contracts see of files in memory.
-use Rattle.std.specs.Prelude.{ℕ, ◌&&◌, Bool, true, not, List, [], ◌∷◌, Some, fold, map}
+use Rattle.std.specs.Prelude.{refl, ℕ, ◌&&◌, Bool, true, not, List, [], ◌∷◌, Some, fold, map}
 use Rattle.std.specs.List.{list_any}
 use Rattle.std.specs.FinMap.{empty, insert}
 use Rattle.std.specs.Str.{bytes_eq}
 use Rattle.lar_tree.specs.declared.file.File.{File}
 use Rattle.outside.specs.CallsState.{CallsState}
-use Rattle.outside.specs.Held.{Held}
+use Rattle.std.specs.Coded.{Coded, code_by, coded×, coded_list, coded_ℕ}
+use Rattle.outside.specs.Held.{Held, coded_held}
 use Rattle.larch_cli.specs.FilesState.{FilesState}
 
 pub record MemoryFilesState : Type 0 where
@@ -26,3 +27,10 @@ are_distinct (name ∷ names) = not (list_any (bytes_eq name) names) && are_dist
 -- what these files hold
 abbrev pub held_by : List File → Held
 held_by files = fold (λ held file. insert held file.name file.bytes) empty files
+
+abbrev pub coded_calls : Coded CallsState
+coded_calls = code_by (List ℕ × (ℕ × ℕ)) (coded× (coded_list coded_ℕ) (coded× coded_ℕ coded_ℕ)) (λ c. (c.failing, (c.calls, c.faults))) (λ p. record { failing = p.0; calls = p.1.0; faults = p.1.1 }) (λ _. refl)
+
+-- as what a model may show
+abbrev pub coded_files : Coded MemoryFilesState
+coded_files = code_by (Held × (ℕ × (ℕ × CallsState))) (coded× coded_held (coded× coded_ℕ (coded× coded_ℕ coded_calls))) (λ f. (f.held, (f.asked, (f.writes, f.calls)))) (λ p. record { held = p.0; asked = p.1.0; writes = p.1.1.0; calls = p.1.1.1 }) (λ _. refl)

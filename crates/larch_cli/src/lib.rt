@@ -3,12 +3,20 @@
 
 mod files;
 mod folder_files;
+mod image;
+mod memory_files;
 mod memory_sink;
+mod putting;
 mod sink;
+mod status;
 mod std_sink;
 
 pub use files::{Files, Read, Wrote};
 pub use folder_files::FolderFiles;
+pub use image::image_of_prints;
+pub use memory_files::MemoryFiles;
 pub use memory_sink::MemorySink;
+pub use putting::{Putting, put_all};
 pub use sink::{Put, Sink};
+pub use status::Status;
 pub use std_sink::StdSink;

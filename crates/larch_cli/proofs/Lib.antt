@@ -1,0 +1,2 @@
+pub mod PrintsLinked
+pub mod Texts
