@@ -7,12 +7,19 @@ use std::alloc::{AllocError, Global};
 /// How a command ended.
 #[derive(Debug, Drop)]
 pub enum Status {
+    /// It is done.
     Done,
+    /// The words are none that are served.
     Usage,
+    /// The file with this name, which the command reads, is not there.
     Absent(Text),
+    /// The file with this name could not be read, or not be written.
     FileFault(Text),
+    /// A put on one of the streams failed.
     SinkFault,
+    /// There was no memory.
     Memory,
+    /// The sources are none that can be built so far.
     Unsupported,
 }
 
@@ -32,7 +39,7 @@ impl Status {
         }
     }
 
-    /// Its line for the error stream, which may be empty.
+    /// Its line for the error stream, which is empty where there is nothing to say or no stream to say it on.
     pub fn line(&self, alloc: Global) -> Result<String, AllocError>
         ensures { IfOk result (λ line. string_bytes line ≡ line_of self.now) }
     {
@@ -51,5 +58,16 @@ impl Status {
             Status::Memory => format!(in alloc; "larchc: out of memory\n"),
             Status::Unsupported => format!(in alloc; "larchc: unsupported input\n"),
         }
+    }
+}
+
+impl From<AllocError> for Status {
+    ghost use Rattle.std.specs.Prelude.{◌≡◌};
+    ghost use Rattle.larch_cli.specs.declared.status.Status.TheVariants.{Memory};
+
+    ghost from_gives = { λ _ status. status ≡ Memory };
+
+    fn from(_: AllocError) -> Status {
+        Status::Memory
     }
 }

@@ -19,15 +19,17 @@ returns-in-Failed g c =
     let told = g.S.Sink.told in
     let text = c.args.text.now in
     let start = told c.args.sink.now in
-    let before = told c.loop-sent.sink in
-    (rose_since start before _ (take c.loop-sent.sent text) c.loop-sent.invariant.took c.in-Failed.ensures.0,
-     a_front start _ before text c.loop-sent.sent c.loop-sent.invariant.took (ap (λ (s : SinkState). s.held) c.in-Failed.ensures.1))
+    let before = told c.loop-sent.sink in (
+      rose_since start before _ (take c.loop-sent.sent text) c.loop-sent.invariant.took c.in-Failed.ensures.0,
+      a_front start _ before text c.loop-sent.sent c.loop-sent.invariant.took (ap (λ (s : SinkState). s.held) c.in-Failed.ensures.1),
+    )
 
 pub returns-in-Memory : goal.returns-in-Memory
 returns-in-Memory g c =
     let told = g.S.Sink.told in
     let text = c.args.text.now in
     let start = told c.args.sink.now in
-    let before = told c.loop-sent.sink in
-    (ap (λ (s : SinkState). s.faults) (c.in-Memory.ensures ∙ c.loop-sent.invariant.took),
-     a_front start _ before text c.loop-sent.sent c.loop-sent.invariant.took (ap (λ (s : SinkState). s.held) c.in-Memory.ensures))
+    let before = told c.loop-sent.sink in (
+      ap (λ (s : SinkState). s.faults) (c.in-Memory.ensures ∙ c.loop-sent.invariant.took),
+      a_front start _ before text c.loop-sent.sent c.loop-sent.invariant.took (ap (λ (s : SinkState). s.held) c.in-Memory.ensures),
+    )
