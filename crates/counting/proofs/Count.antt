@@ -3,7 +3,8 @@ use Rattle.std.proofs.Common.{◌≡◌, ℕ, zero, suc, ◌+◌, ◌≤◌, Boo
 use Rattle.std.proofs.lemmas.Bool.{eqb-true, eq-eqb}
 use Rattle.std.proofs.lemmas.List.Sums.{sum_by-cons}
 use Rattle.std.proofs.lemmas.List.Sorted.{sum_by-IsPermutation}
-use Rattle.std.specs.List.{sum_by}
+use Rattle.std.proofs.lemmas.List.Recursion.{is_count_by}
+use Rattle.std.specs.List.{sum_by, count_by}
 use Rattle.std.specs.List.Sorted.{IsPermutation}
 use mathlib.Core.Option.{some, some-injective, some-ne-none}
 use lib.ListN.{get_elem?}
@@ -91,3 +92,10 @@ times-sum_by x (y ∷ l) = let r = times-sum_by x l in omega (arith, sum_by-cons
 -- a list with the same elements has each number as often
 pub times-IsPermutation : (x : ℕ) (l m : List ℕ) → IsPermutation l m → times x m ≡ times x l
 times-IsPermutation x l m same = let a = times-sum_by x l in let b = times-sum_by x m in let s = sum_by-IsPermutation (λ y. one_if (eqb x y)) l m same in omega arith
+
+one_or : (b : Bool) (n : ℕ) → one_if b + n ≡ cond b (1 + n) n
+one_or true n = refl
+one_or false n = omega arith
+
+pub times-count_by : (x : ℕ) (l : List ℕ) → times x l ≡ count_by (λ y. eqb x y) l
+times-count_by x l = is_count_by (times x) (λ y. eqb x y) refl (λ y ys. one_or (eqb x y) (times x ys)) l

@@ -1,5 +1,5 @@
 -- A pass that takes byte after byte, and what it has taken when there is none.
-use Rattle.std.proofs.Common.{◌≡◌, ℕ, zero, suc, ◌+◌, ◌≤◌, eqb, List, [], ◌∷◌, ◌++◌, length, sym, refl, ap, ◌∙◌, subst, arith}
+use Rattle.std.proofs.Common.{◌≡◌, ℕ, zero, suc, ◌+◌, ◌-◌, List, [], ◌∷◌, ◌++◌, sym, refl, ap, ◌∙◌, subst, arith}
 use Rattle.std.specs.List.Sorted.{IsPermutation}
 use Rattle.counting.specs.Count.{times}
 use Rattle.counting.proofs.Count.{times-snoc, times-length, times-IsPermutation}
@@ -10,7 +10,7 @@ use Rattle.token_pool.specs.declared.view.View.{View}
 use Rattle.token_pool.specs.declared.view.View.TheVariants.{OfPool, OfPass, Spent}
 use Rattle.token_pool.specs.View.{hand_of, passes_of, IsLive}
 use Rattle.token_pool.specs.Steps.{on_hand, hand_took, Took, Accounts}
-use Rattle.token_pool.specs.Memory.{MemoryState, memory_state, IsPool, IsRest}
+use Rattle.token_pool.specs.Memory.{MemoryState, memory_state, told_alone, memory_told, IsPool, IsRest, AreFree}
 
 -- the pass with the view v has taken these bytes since, and has the view w now
 abbrev pub Drained : View → View → List ℕ → Type 0
@@ -68,3 +68,12 @@ IsRest-sorted Spent room rest sorted known is same none x = let own = known.own 
 pub left_all : (q : TableId) (v : View) (room : ℕ) (rest sorted left : List ℕ) (s : MemoryState) → IsPool v room → IsRest v rest → IsPermutation rest sorted → left ≡ sorted → memory_state q v ≡ s
     → s.passes ≡ 0 → (x : ℕ) → times x left + times x s.owed ≡ times x s.bytes
 left_all q v room rest sorted left s known is same left_is seen = subst (λ (z : List ℕ × MemoryState). z.1.passes ≡ 0 → (x : ℕ) → times x z.0 + times x z.1.owed ≡ times x z.1.bytes) (λ i. (sym left_is i, seen i)) (IsRest-sorted v room rest sorted known is same)
+
+free_of : (v : View) (room : ℕ) (rest sorted : List ℕ) → IsPool v room → IsRest v rest → IsPermutation rest sorted → AreFree (told_alone (passes_of v) (λ x. times x (hand_of v).bytes - times x (hand_of v).owed)) sorted
+free_of (OfPool hand zero) room rest sorted known is same = λ x. let r = IsRest-sorted (OfPool hand zero) room rest sorted known is same refl x in omega arith
+free_of (OfPool hand (suc out)) room rest sorted known is same = tt
+free_of (OfPass hand) room rest sorted known is same = let own = known.own in absurd (cc)
+free_of Spent room rest sorted known is same = let own = known.own in absurd (cc)
+
+pub left_free : (q : TableId) (v : View) (room : ℕ) (rest sorted left : List ℕ) (s : MemoryState) → IsPool v room → IsRest v rest → IsPermutation rest sorted → left ≡ sorted → memory_state q v ≡ s → AreFree (memory_told s).free left
+left_free q v room rest sorted left s known is same left_is seen = subst (λ (z : List ℕ × MemoryState). AreFree (memory_told z.1).free z.0) (λ i. (sym left_is i, seen i)) (free_of v room rest sorted known is same)

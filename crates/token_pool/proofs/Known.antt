@@ -1,5 +1,5 @@
 -- The moves at a pass whose view is known, and what they make of what a pool tells.
-use Rattle.std.proofs.Common.{◌≡◌, ℕ, zero, suc, ◌+◌, ◌-◌, ◌≤◌, eqb, Bool, List, [], ◌∷◌, ◌++◌, length, Some, None, Option, sym, refl, ap, ◌∙◌, subst, arith}
+use Rattle.std.proofs.Common.{◌≡◌, ℕ, zero, suc, ◌+◌, ◌-◌, ◌≤◌, eqb, List, [], ◌∷◌, sym, refl, ap, ◌∙◌, subst, arith}
 use Rattle.counting.specs.Count.{one_if, times, without}
 use Rattle.counting.proofs.Count.{one_if-same, times-snoc, times-without, times-length}
 use Rattle.atomic_table.specs.Seated.{TableId}
@@ -13,7 +13,7 @@ use Rattle.token_pool.specs.declared.view.View.TheVariants.{OfPool, OfPass, Spen
 use Rattle.token_pool.specs.Pool.{Bag, no_byte, one_byte, Moved, FreeMoved, NoneFree, TakenBy, GivenBy}
 use Rattle.token_pool.specs.View.{hand_of, passes_of, IsLive}
 use Rattle.token_pool.specs.Rule.{Ruled}
-use Rattle.token_pool.specs.Steps.{hand_took, hand_gave, Filled, Took, Gave, HasRoom, Accounts, pool_side, pass_side, both_sides}
+use Rattle.token_pool.specs.Steps.{hand_took, Filled, Took, Gave, HasRoom, Accounts, pool_side, pass_side, both_sides}
 use Rattle.token_pool.specs.Memory.{MemoryState, PassState, memory_state, pass_state, told_alone, memory_told, pass_told, IsPool, IsPass}
 use Rattle.token_pool.proofs.Moves.{fills, has_room, forks, merges}
 
@@ -67,17 +67,16 @@ told_alone-moved zero (suc n) before gains loses after same moved = absurd (omeg
 told_alone-moved (suc n) passes' before gains loses after same moved = tt
 
 pub memory_took : (q : TableId) (v w : View) (byte room : ℕ) (s : MemoryState) (answer : Take) → answer ≡ Byte byte → IsPool v room → Took v byte w → memory_state q v ≡ s → TakenBy (memory_told s) answer (memory_told (memory_state q w))
-memory_took q (OfPool hand out) w byte room s answer answered known took is = subst (λ (z : View × MemoryState × Take). TakenBy (memory_told z.1) z.2 (memory_told (memory_state q z.0))) (λ i. (sym took.0 i, is i, sym answered i))
-    (
-      record {
-        owed = λ x. let t = times-snoc x byte hand.owed in omega arith;
-        free = told_alone-moved out out (λ x. times x hand.bytes - times x hand.owed) no_byte (one_byte byte) (λ x. times x hand.bytes - times x (hand_took byte hand).owed) refl
-            (λ x. let t = times-snoc x byte hand.owed in let c = covered x in omega arith);
-        taken = tt;
-        faults = omega arith;
-      },
-      refl,
-    )
+memory_took q (OfPool hand out) w byte room s answer answered known took is = subst (λ (z : View × MemoryState × Take). TakenBy (memory_told z.1) z.2 (memory_told (memory_state q z.0))) (λ i. (sym took.0 i, is i, sym answered i)) (
+  record {
+    owed = λ x. let t = times-snoc x byte hand.owed in omega arith;
+    free = told_alone-moved out out (λ x. times x hand.bytes - times x hand.owed) no_byte (one_byte byte) (λ x. times x hand.bytes - times x (hand_took byte hand).owed) refl
+        (λ x. let t = times-snoc x byte hand.owed in let c = covered x in omega arith);
+    taken = tt;
+    faults = omega arith;
+  },
+  refl,
+)
   where
     covered : (x : ℕ) → times x (hand_took byte hand).owed ≤ times x hand.bytes
     covered x = subst (λ (z : View). times x (hand_of z).owed ≤ times x (hand_of z).bytes) took.0 (took.1 x)
@@ -91,30 +90,28 @@ none_free (OfPass hand) room known held = let own = known.own in absurd (cc)
 none_free Spent room known held = let own = known.own in absurd (cc)
 
 pub memory_empty : (q : TableId) (v w : View) (room : ℕ) (s : MemoryState) (answer : Take) → answer ≡ Empty → IsPool v room → w ≡ v → Held 0 (Accounts v) → memory_state q v ≡ s → TakenBy (memory_told s) answer (memory_told (memory_state q w))
-memory_empty q v w room s answer answered known same held is = subst (λ (z : View × MemoryState × Take). TakenBy (memory_told z.1) z.2 (memory_told (memory_state q z.0))) (λ i. (sym same i, is i, sym answered i))
-    (
-      record {
-        owed = λ x. omega arith;
-        free = told_alone-moved (passes_of v) (passes_of v) (λ x. times x (hand_of v).bytes - times x (hand_of v).owed) no_byte no_byte (λ x. times x (hand_of v).bytes - times x (hand_of v).owed) refl (λ x. omega arith);
-        taken = tt;
-        faults = omega arith;
-      },
-      refl,
-      none_free v room known held,
-    )
+memory_empty q v w room s answer answered known same held is = subst (λ (z : View × MemoryState × Take). TakenBy (memory_told z.1) z.2 (memory_told (memory_state q z.0))) (λ i. (sym same i, is i, sym answered i)) (
+  record {
+    owed = λ x. omega arith;
+    free = told_alone-moved (passes_of v) (passes_of v) (λ x. times x (hand_of v).bytes - times x (hand_of v).owed) no_byte no_byte (λ x. times x (hand_of v).bytes - times x (hand_of v).owed) refl (λ x. omega arith);
+    taken = tt;
+    faults = omega arith;
+  },
+  refl,
+  none_free v room known held,
+)
 
 pub memory_gave : (q : TableId) (v w : View) (byte room : ℕ) (s : MemoryState) → IsPool v room → 1 ≤ times byte (hand_of v).owed → Gave v byte w → memory_state q v ≡ s → GivenBy (memory_told s) byte Done (memory_told (memory_state q w))
-memory_gave q (OfPool hand out) w byte room s known owed gave is = subst (λ (z : View × MemoryState). GivenBy (memory_told z.1) byte Done (memory_told (memory_state q z.0))) (λ i. (sym gave i, is i))
-    (
-      record {
-        owed = λ x. let t = times-without x byte hand.owed owed in omega arith;
-        free = told_alone-moved out out (λ x. times x hand.bytes - times x hand.owed) (one_byte byte) no_byte (λ x. times x hand.bytes - times x (without byte hand.owed)) refl
-            (λ x. let t = times-without x byte hand.owed owed in let c = known.covered x in omega arith);
-        taken = tt;
-        faults = omega arith;
-      },
-      refl,
-    )
+memory_gave q (OfPool hand out) w byte room s known owed gave is = subst (λ (z : View × MemoryState). GivenBy (memory_told z.1) byte Done (memory_told (memory_state q z.0))) (λ i. (sym gave i, is i)) (
+  record {
+    owed = λ x. let t = times-without x byte hand.owed owed in omega arith;
+    free = told_alone-moved out out (λ x. times x hand.bytes - times x hand.owed) (one_byte byte) no_byte (λ x. times x hand.bytes - times x (without byte hand.owed)) refl
+        (λ x. let t = times-without x byte hand.owed owed in let c = known.covered x in omega arith);
+    taken = tt;
+    faults = omega arith;
+  },
+  refl,
+)
 memory_gave q (OfPass hand) w byte room s known owed gave is = let own = known.own in absurd (cc)
 memory_gave q Spent w byte room s known owed gave is = let own = known.own in absurd (cc)
 

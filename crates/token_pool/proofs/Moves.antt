@@ -1,9 +1,9 @@
 -- Each step on the queue of free bytes keeps the rule, and what a look at it tells.
-use Rattle.std.proofs.Common.{◌≡◌, ◌≢◌, ◌⊎◌, ℕ, zero, suc, ◌+◌, ◌-◌, ◌<◌, ◌≤◌, eqb, List, [], ◌∷◌, ◌++◌, length, set, sym, refl, ap, ◌∙◌, subst, ⊎_elim, arith}
+use Rattle.std.proofs.Common.{◌≡◌, ◌≢◌, ℕ, zero, suc, ◌+◌, ◌-◌, ◌≤◌, List, [], ◌∷◌, ◌++◌, length, set, sym, refl, ap, ◌∙◌, subst, ⊎_elim, arith}
 use Rattle.std.proofs.lemmas.List.{length-append}
 use mathlib.Core.Option.{some, some-injective, some-ne-none}
 use lib.ListN.{get_elem?}
-use Rattle.counting.specs.Count.{one_if, times, without, total}
+use Rattle.counting.specs.Count.{times, total}
 use Rattle.counting.proofs.Count.{times-snoc, times-without, total-set, total-snoc, total-at, length-without}
 use Rattle.crossbeam_queue.specs.Fifo.{Pushes, Pops, Forks, Merges, Learns}
 use Rattle.crossbeam_queue.proofs.Lists.{at_set, at_snoc}
@@ -12,7 +12,7 @@ use Rattle.token_pool.specs.declared.view.View.{View}
 use Rattle.token_pool.specs.declared.view.View.TheVariants.{OfPool, OfPass, Spent}
 use Rattle.token_pool.specs.View.{hand_of, pass_of, owed_of, owes_of, IsCovered, IsLive}
 use Rattle.token_pool.specs.Rule.{Fits, Holds, Ruled}
-use Rattle.token_pool.specs.Steps.{opened, on_hand, hand_filled, hand_took, hand_gave, Filled, Took, Gave, HasRoom, Accounts, pool_side, pass_side, both_sides}
+use Rattle.token_pool.specs.Steps.{opened, hand_filled, hand_took, hand_gave, Filled, Took, Gave, HasRoom, Accounts, pool_side, pass_side, both_sides}
 
 -- a view in the list with w at seat is w, or another's as before
 fits_set : (views : List View) (seat : ℕ) (w : View) (F G : ℕ → View → Type 0) → G seat w → ((i : ℕ) (v : View) → i ≢ seat → F i v → G i v) → ((i : ℕ) (v : View) → get_elem? views i ≡ some v → F i v)

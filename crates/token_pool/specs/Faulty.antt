@@ -1,5 +1,5 @@
 -- What contracts see of a pool that fails at the calls that it is told, and what its calls change.
-use Rattle.std.specs.Prelude.{◌≡◌, ℕ, ◌-◌, ◌≤◌, Bool, true, false, nat_lt, if◌then◌else◌, List, ◌∷◌, ◌++◌, [], length, Contains, Option, Some, None}
+use Rattle.std.specs.Prelude.{◌≡◌, ℕ, ◌-◌, ◌≤◌, true, false, nat_lt, if◌then◌else◌, List, ◌∷◌, ◌++◌, [], length, Contains, Option, Some, None}
 use Rattle.counting.specs.Count.{times}
 use Rattle.outside.specs.Counts.{last_count, raised}
 use Rattle.outside.specs.CallsState.{CallsState, after_call}

@@ -1,8 +1,9 @@
 -- What contracts see of a pool in memory and of its passes.
-use Rattle.std.specs.Prelude.{◌≡◌, ℕ, zero, suc, ◌+◌, ◌-◌, ◌≤◌, List, [], length, Option, Some, None}
+use Rattle.std.specs.Prelude.{◌≡◌, ℕ, zero, suc, ◌+◌, ◌-◌, ◌≤◌, List, [], ◌∷◌, ◌++◌, length, Option, Some, None}
 use Rattle.counting.specs.Count.{times}
 use Rattle.atomic_table.specs.Seated.{TableId}
-use Rattle.token_pool.specs.declared.view.Hand.{Hand}
+use Rattle.token_pool.specs.declared.pool.Take.{Take}
+use Rattle.token_pool.specs.declared.pool.Take.TheVariants.{Byte, Empty, Failed as TakeFailed}
 use Rattle.token_pool.specs.declared.view.View.{View}
 use Rattle.token_pool.specs.declared.view.View.TheVariants.{OfPool, OfPass, Spent}
 use Rattle.token_pool.specs.Pool.{Bag, PoolState}
@@ -48,6 +49,23 @@ pub record IsPool (v : View) (room : ℕ) : Type 0 where
 pub record IsPass (v : View) (room : ℕ) : Type 0 where
   pub out : v ≡ OfPass (hand_of v)
   pub fits : length (hand_of v).bytes ≤ room
+
+-- a take of the pool answers a byte, which it owes then, or none; it never fails
+abbrev pub MemoryTook : MemoryState → Take → MemoryState → Type 0
+MemoryTook before (Byte byte) after = after ≡ record before { owed = before.owed ++ byte ∷ [] }
+MemoryTook before Empty after = after ≡ before
+MemoryTook before TakeFailed after = ⊥
+
+-- the same of a pass
+abbrev pub PassTook : PassState → Take → PassState → Type 0
+PassTook before (Byte byte) after = after ≡ record before { owed = before.owed ++ byte ∷ [] }
+PassTook before Empty after = after ≡ before
+PassTook before TakeFailed after = ⊥
+
+-- these are the free bytes, where they are told
+abbrev pub AreFree : Option Bag → List ℕ → Type 0
+AreFree (Some free) bytes = (x : ℕ) → times x bytes ≡ free x
+AreFree None bytes = Unit {0}
 
 -- a new pool: these bytes, nothing owed and no pass out
 pub record IsNewPool (bytes : List ℕ) (pool : MemoryState) : Type 0 where

@@ -3,7 +3,6 @@ use Rattle.std.specs.Prelude.{◌≡◌, ℕ, ◌+◌, List, length}
 use mathlib.Core.Option.{some}
 use lib.ListN.{get_elem?}
 use Rattle.counting.specs.Count.{times, total}
-use Rattle.token_pool.specs.declared.view.Hand.{Hand}
 use Rattle.token_pool.specs.declared.view.View.{View}
 use Rattle.token_pool.specs.declared.view.View.TheVariants.{OfPool, OfPass, Spent}
 use Rattle.token_pool.specs.View.{pass_of, owed_of, owes_of}

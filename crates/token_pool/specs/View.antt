@@ -1,5 +1,5 @@
 -- What a pass of a pool in memory knows, and what its view counts for.
-use Rattle.std.specs.Prelude.{◌≡◌, ℕ, ◌≤◌, [], length}
+use Rattle.std.specs.Prelude.{ℕ, ◌≤◌, [], length}
 use Rattle.counting.specs.Count.{times}
 use Rattle.token_pool.specs.declared.view.Hand.{Hand}
 use Rattle.token_pool.specs.declared.view.View.{View}

@@ -1,5 +1,5 @@
 //! A pool that fails at the calls that it is told.
-ghost use Rattle.std.specs.Prelude.{◌≡◌, ◌≤◌, IfOk};
+ghost use Rattle.std.specs.Prelude.{◌≡◌, ◌≤◌, ◌==◌, count_by, IfOk};
 ghost use Rattle.token_pool.specs.Pool.{TakenBy, GivenBy};
 ghost use Rattle.token_pool.specs.Faulty.{faulty_told, new_faulty, FaultyTook, FaultyGave};
 
@@ -47,6 +47,25 @@ impl FaultyPool {
             taken: 0,
             calls,
         })
+    }
+
+    /// How often this byte was taken and not given back.
+    pub fn owed(&self, byte: u8) -> usize
+        ensures { result ≡ (faulty_told self.now).owed byte }
+    {
+        self.made(byte).saturating_sub(self.free(byte))
+    }
+
+    fn made(&self, byte: u8) -> usize
+        ensures { result ≡ count_by (λ made. byte == made) self.now.bytes }
+    {
+        self.bytes.iter().filter(|made| byte == **made).count()
+    }
+
+    fn free(&self, byte: u8) -> usize
+        ensures { result ≡ count_by (λ free. byte == free) self.now.free }
+    {
+        self.free.iter().filter(|free| byte == **free).count()
     }
 }
 

@@ -1,10 +1,12 @@
 //! A pool whose bytes lie in memory, shared by any number of passes.
-ghost use Rattle.std.specs.Prelude.{◌≡◌, ◌+◌, ◌-◌, ◌≤◌, ℕ, [], length, IfOk, OnErr};
+ghost use Rattle.std.specs.Prelude.{◌≡◌, ◌+◌, ◌-◌, ◌≤◌, ℕ, [], ◌∷◌, ◌++◌, length, IfOk, OnErr};
 ghost use Rattle.std.specs.List.Sorted.{IsNonDecreasing};
-ghost use Rattle.counting.specs.Count.{times};
+ghost use Rattle.counting.specs.Count.{times, without};
 ghost use Rattle.crossbeam_queue.specs.Passes.{view, IsPassOf, IsSamePass};
 ghost use Rattle.token_pool.specs.View.{IsLive};
-ghost use Rattle.token_pool.specs.Memory.{IsNewPool, IsRest, memory_told};
+ghost use Rattle.token_pool.specs.Memory.{IsNewPool, IsRest, AreFree, MemoryTook, memory_told};
+ghost use Rattle.token_pool.specs.Pool.{TakenBy, GivenBy};
+ghost use Rattle.token_pool.specs.declared.pool.Given.TheVariants.{Done};
 
 use crate::pass::PoolPass;
 use crate::pool::{Given, Take, TokenPool};
@@ -73,6 +75,7 @@ impl MemoryPool {
     /// pool was made with and does not owe.
     pub fn left<R: Wait>(self, rt: &R, alloc: Global) -> Result<Bytes, AllocError>
         ensures ascending { IfOk result (λ left. IsNonDecreasing left) }
+        ensures free { IfOk result (λ left. AreFree (memory_told self).free left) }
         ensures all { IfOk result (λ left. self.passes ≡ 0 → (x : ℕ) → times x left + times x self.owed ≡ times x self.bytes) }
     {
         let MemoryPool { queue, mut pass } = self;
@@ -106,14 +109,21 @@ fn emptied<R: Wait>(
 impl TokenPool for MemoryPool {
     ghost told = { memory_told };
 
-    fn try_take<R: Wait>(&mut self, rt: &R) -> Take {
+    fn try_take<R: Wait>(&mut self, rt: &R) -> Take
+        ensures told { TakenBy (memory_told self.old) result (memory_told self.new) }
+        ensures exact { MemoryTook self.old result self.new }
+    {
         match take_byte(rt, &self.queue, &mut self.pass) {
             Some(byte) => Take::Byte(byte),
             None => Take::Empty,
         }
     }
 
-    fn give<R: Wait>(&mut self, rt: &R, byte: u8) -> Given {
+    fn give<R: Wait>(&mut self, rt: &R, byte: u8) -> Given
+        requires { 1 ≤ times byte self.old.owed }
+        ensures told { GivenBy (memory_told self.old) byte result (memory_told self.new) }
+        ensures exact { (result ≡ Done) × (self.new ≡ record self.old { owed = without byte self.old.owed }) }
+    {
         give_byte(rt, &self.queue, &mut self.pass, byte);
         Given::Done
     }

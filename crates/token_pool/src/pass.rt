@@ -1,7 +1,9 @@
 //! A pass on a pool in memory.
-ghost use Rattle.std.specs.Prelude.{◌≤◌};
+ghost use Rattle.std.specs.Prelude.{◌≡◌, ◌≤◌};
+ghost use Rattle.counting.specs.Count.{times, without};
 ghost use Rattle.token_pool.specs.Pool.{TakenBy, GivenBy};
-ghost use Rattle.token_pool.specs.Memory.{pass_told};
+ghost use Rattle.token_pool.specs.Memory.{PassTook, pass_told};
+ghost use Rattle.token_pool.specs.declared.pool.Given.TheVariants.{Done};
 
 use crate::pool::{Given, Take, TokenPool};
 use crate::queue::{Queue, give_byte, take_byte};
@@ -34,14 +36,21 @@ impl Model for PoolPass {
 impl TokenPool for PoolPass {
     ghost told = { pass_told };
 
-    fn try_take<R: Wait>(&mut self, rt: &R) -> Take {
+    fn try_take<R: Wait>(&mut self, rt: &R) -> Take
+        ensures told { TakenBy (pass_told self.old) result (pass_told self.new) }
+        ensures exact { PassTook self.old result self.new }
+    {
         match take_byte(rt, &self.queue, &mut self.pass) {
             Some(byte) => Take::Byte(byte),
             None => Take::Empty,
         }
     }
 
-    fn give<R: Wait>(&mut self, rt: &R, byte: u8) -> Given {
+    fn give<R: Wait>(&mut self, rt: &R, byte: u8) -> Given
+        requires { 1 ≤ times byte self.old.owed }
+        ensures told { GivenBy (pass_told self.old) byte result (pass_told self.new) }
+        ensures exact { (result ≡ Done) × (self.new ≡ record self.old { owed = without byte self.old.owed }) }
+    {
         give_byte(rt, &self.queue, &mut self.pass, byte);
         Given::Done
     }

@@ -91,11 +91,7 @@ pub(crate) fn put_all<R: Wait>(rt: &R, queue: &Queue, pass: &mut Pass<u8, View>,
 }
 
 /// Pops a byte. There is none only if the queue was empty at one moment of the call.
-pub(crate) fn take_byte<R: Wait>(
-    rt: &R,
-    queue: &Queue,
-    pass: &mut Pass<u8, View>,
-) -> Option<u8>
+pub(crate) fn take_byte<R: Wait>(rt: &R, queue: &Queue, pass: &mut Pass<u8, View>) -> Option<u8>
     requires queue { IsPassOf queue.now pass.old }
     requires live { IsLive (view pass.old) }
     ensures queue { IsSamePass pass.old pass.new }

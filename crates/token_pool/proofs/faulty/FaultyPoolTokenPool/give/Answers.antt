@@ -1,4 +1,4 @@
-use Rattle.std.proofs.Common.{◌≡◌, ◌+◌, ◌-◌, ◌≤◌, ap, sym, refl, subst, arith}
+use Rattle.std.proofs.Common.{◌-◌, ◌≤◌, ap, sym, refl, subst, arith}
 use Rattle.counting.specs.Count.{times}
 use Rattle.outside.specs.CallsState.{CallsState}
 use Rattle.token_pool.specs.Faulty.{FaultyState}

@@ -1,4 +1,4 @@
-use Rattle.std.proofs.Common.{ℕ, ap, ◌∙◌}
+use Rattle.std.proofs.Common.{ap, ◌∙◌}
 use Rattle.counting.specs.Count.{times}
 use Rattle.token_pool.specs.Memory.{PassState}
 use Rattle.token_pool.proofs.Known.{merges_at, times-none}

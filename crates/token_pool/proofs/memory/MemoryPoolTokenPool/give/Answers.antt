@@ -7,5 +7,5 @@ use Rattle.token_pool.proofs.memory.MemoryPoolTokenPool.give.Goals as goal
 pub invariant_of-self : goal.invariant_of-self
 invariant_of-self g c = (search rules, IsPool-gave _ _ _ _ c.self.invariant.1 (subst (λ (s : MemoryState). 1 ≤ times c.args.byte s.owed) (sym c.self.view_is) c.requires) c.give_byte.ensures.rule)
 
-pub returns : goal.returns
-returns g c = memory_gave _ _ _ _ _ _ c.self.invariant.1 (subst (λ (s : MemoryState). 1 ≤ times c.args.byte s.owed) (sym c.self.view_is) c.requires) c.give_byte.ensures.rule c.self.view_is
+pub returns-clause-told : goal.returns-clause-told
+returns-clause-told g c = memory_gave _ _ _ _ _ _ c.self.invariant.1 (subst (λ (s : MemoryState). 1 ≤ times c.args.byte s.owed) (sym c.self.view_is) c.requires) c.give_byte.ensures.rule c.self.view_is
