@@ -17,12 +17,12 @@
 //! of a seat knows.
 #![tactic(auto)]
 
-pub mod desk;
-pub mod lease;
-pub mod mark;
-pub mod reading;
+mod desk;
+mod lease;
+mod mark;
+mod reading;
 mod steps;
-pub mod view;
+mod view;
 
 pub use desk::{Desk, Leases};
 pub use lease::{Busy, Lease};

@@ -17,12 +17,12 @@
 //! what each holder of a pass knows, on `outside` for counted calls, and on `lar_tree` for bytes.
 #![tactic(auto)]
 
-pub mod faulty;
-pub mod memory;
-pub mod pass;
-pub mod pool;
+mod faulty;
+mod memory;
+mod pass;
+mod pool;
 mod queue;
-pub mod view;
+mod view;
 
 pub use faulty::FaultyPool;
 pub use memory::MemoryPool;

@@ -1,9 +1,8 @@
 //! The worked rounds, and two threads on one pool. The clauses say what each call does; here each
 //! call is made once on its way through, with ample memory, and the order is shown in which the
 //! free bytes are handed out, of which only the pool that fails on purpose has a clause.
-ghost use Rattle.std.specs.Prelude.{◌≡◌, ◌≤◌, ℕ};
+ghost use Rattle.std.specs.Prelude.{◌≡◌, ℕ};
 ghost use Rattle.counting.specs.Count.{times};
-ghost use Rattle.token_pool.specs.Memory.{pass_told};
 
 use crate::{FaultyPool, Given, MemoryPool, PoolPass, Take, TokenPool};
 use std::sync::Wait;
