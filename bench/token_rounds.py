@@ -2,22 +2,28 @@
 """Times a round of leases and a round of tokens against their plain counterparts, in one run.
 
 Usage: bench/token_rounds.py [ROUNDS], from anywhere. It needs `rt` and `rustc`, builds both programs, and prints
-nanoseconds a round: the best of five runs, less the time of a run without rounds.
+nanoseconds of processor time a round: the best of five runs, less the time of a run without rounds. Processor time, since
+other work on the machine would only show in the time on the clock.
 """
 import os
+import resource
 import subprocess
 import sys
 import tempfile
-import time
 
 HERE = os.path.dirname(os.path.abspath(__file__))
 CRATE = os.path.join(os.path.dirname(HERE), "crates", "token_rounds")
 
 
+def used():
+    children = resource.getrusage(resource.RUSAGE_CHILDREN)
+    return children.ru_utime + children.ru_stime
+
+
 def seconds(program, kind, rounds):
-    start = time.perf_counter()
+    before = used()
     subprocess.run([program], input=f"{kind} {rounds}\n", text=True, check=True, stdout=subprocess.DEVNULL)
-    return time.perf_counter() - start
+    return used() - before
 
 
 def nanoseconds(program, kind, rounds):
