@@ -1,0 +1,6 @@
+pub mod ReadingLemmas
+pub mod JobLemmas
+pub mod ViewLemmas
+pub mod DeskMoves
+pub mod LeaseMoves
+pub mod Known

@@ -1,0 +1,4 @@
+pub mod Moves
+pub mod Known
+pub mod Draining
+pub mod Failing
