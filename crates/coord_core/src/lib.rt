@@ -1,0 +1,8 @@
+//! The coordinator as a pure machine over events.
+#![tactic(auto)]
+
+pub mod event;
+pub mod job;
+pub mod laws;
+
+pub use event::{Actions, Event, Main};
