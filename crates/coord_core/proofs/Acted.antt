@@ -6,7 +6,7 @@ use Rattle.counting.proofs.Count.{total-snoc, times-snoc, times-append}
 use Rattle.coord_core.specs.declared.event.Main.{Main}
 use Rattle.coord_core.specs.declared.event.Main.TheVariants.{Idle, Generate}
 use Rattle.coord_core.specs.declared.job.Job.{Job}
-use Rattle.coord_core.specs.declared.job.Queued.{Queued}
+use Rattle.coord_core.specs.declared.queue.Queued.{Queued}
 use Rattle.coord_core.specs.State.{State, one_some, times_some, running_at, queued_at, bytes_in, byte_at, own_of}
 use Rattle.coord_core.specs.Decide.{may_generate, wants, is_free, passed, pass, started, start, start_by, gives, lends, main_by, main, lend_by, main_act, is_short, asks_now, asked, settled, decided, actions_of}
 use Rattle.coord_core.specs.Journal.{begun_by, lent_by, unit_by}

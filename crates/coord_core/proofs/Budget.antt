@@ -6,7 +6,7 @@ use Rattle.coord_core.specs.declared.event.Event.{Event}
 use Rattle.coord_core.specs.declared.event.Event.TheVariants.{Took, Empty, TakeFault, Generated, GenFailed, Made, MakeFailed, Wanted, Gave, GiveFault}
 use Rattle.coord_core.specs.declared.event.Main.{Main}
 use Rattle.coord_core.specs.declared.event.Main.TheVariants.{Idle, Generate, Lend}
-use Rattle.coord_core.specs.declared.job.Queued.{Queued}
+use Rattle.coord_core.specs.declared.queue.Queued.{Queued}
 use Rattle.coord_core.specs.State.{State, one_some, payers, own_of, is_gen, runs, placed, is_empty, bytes_in}
 use Rattle.coord_core.specs.Effect.{wanted, effect}
 use Rattle.coord_core.specs.Decide.{may_generate, wants, is_free, is_short, passed, pass, started, start, gives, give, lends, main_by, main, asks_now, settled, may_ask, decided, actions_of}

@@ -9,7 +9,7 @@ use Rattle.coord_core.specs.declared.event.Event.TheVariants.{Took, Empty, TakeF
 use Rattle.coord_core.specs.declared.event.Main.{Main}
 use Rattle.coord_core.specs.declared.event.Main.TheVariants.{Idle, Generate, Lend}
 use Rattle.coord_core.specs.declared.job.Job.{Job}
-use Rattle.coord_core.specs.declared.job.Queued.{Queued}
+use Rattle.coord_core.specs.declared.queue.Queued.{Queued}
 use Rattle.coord_core.specs.State.{State, times_some, queued_at, running_at, in_hand, own_of, is_gen, runs, placed}
 use Rattle.coord_core.specs.Effect.{wanted, effect}
 use Rattle.coord_core.specs.Decide.{may_generate, full_enough, is_free, is_short, lends, main_by, main, settled, asked, asks_now, may_ask, decided, actions_of}

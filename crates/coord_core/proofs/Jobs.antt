@@ -5,7 +5,7 @@ use Rattle.std.proofs.lemmas.Bool.Decides.{nat_tests}
 use Rattle.counting.specs.Count.{one_if, times, total}
 use Rattle.counting.proofs.Count.{one_if-same}
 use Rattle.coord_core.specs.declared.job.Job.{Job}
-use Rattle.coord_core.specs.declared.job.Queued.{Queued}
+use Rattle.coord_core.specs.declared.queue.Queued.{Queued}
 use Rattle.coord_core.specs.State.{one_some, times_some, owns, payers, paid_at, running_at, queued_at, own_of, runs, is_gen, has_byte, payer_of, jobs_without, paid_by, precedes, placed, is_empty, bytes_without}
 use Rattle.coord_core.specs.Effect.{kept_to}
 

@@ -8,4 +8,5 @@ pub mod Bar
 pub mod Cover
 pub mod Bag
 pub mod Budget
-pub mod Queue
+pub mod Ordered
+pub mod Places

@@ -6,7 +6,7 @@ use Rattle.counting.proofs.Count.{total-snoc}
 use Rattle.coord_core.specs.declared.event.Event.{Event}
 use Rattle.coord_core.specs.declared.event.Event.TheVariants.{Took, Empty, TakeFault, Generated, GenFailed, Made, MakeFailed, Wanted, Gave, GiveFault}
 use Rattle.coord_core.specs.declared.job.Job.{Job}
-use Rattle.coord_core.specs.declared.job.Queued.{Queued}
+use Rattle.coord_core.specs.declared.queue.Queued.{Queued}
 use Rattle.coord_core.specs.State.{State, one_some, owns, payers, own_of, is_gen, runs}
 use Rattle.coord_core.specs.Effect.{cut, ended, gen_ended, wanted, effect}
 use Rattle.coord_core.specs.Decide.{wants, is_free, passed, pass, started, start, gives, lends, main_by, main, is_short, may_ask, asks_now, asked, settled, decided}

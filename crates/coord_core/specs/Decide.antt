@@ -5,7 +5,7 @@ use Rattle.coord_core.specs.declared.event.Event.TheVariants.{Took, Empty, TakeF
 use Rattle.coord_core.specs.declared.event.Main.{Main}
 use Rattle.coord_core.specs.declared.event.Main.TheVariants.{Idle, Generate, Lend}
 use Rattle.coord_core.specs.declared.event.Actions.{Actions}
-use Rattle.coord_core.specs.declared.job.Queued.{Queued}
+use Rattle.coord_core.specs.declared.queue.Queued.{Queued}
 use Rattle.coord_core.specs.State.{State, payers, own_of, paid_by, is_empty}
 
 -- units are left to generate, and none failed

@@ -2,7 +2,7 @@
 use Rattle.std.specs.Prelude.{ℕ, min, nat_lt, nat_le, Bool, true, false, List, Some, None, filter, if◌then◌else◌}
 use Rattle.coord_core.specs.declared.event.Event.{Event}
 use Rattle.coord_core.specs.declared.event.Event.TheVariants.{Took, Empty, TakeFault, Generated, GenFailed, Made, MakeFailed, Wanted, Gave, GiveFault}
-use Rattle.coord_core.specs.declared.job.Queued.{Queued}
+use Rattle.coord_core.specs.declared.queue.Queued.{Queued}
 use Rattle.coord_core.specs.State.{State, is_gen, payer_of, jobs_without, placed, bytes_without}
 
 -- what is queued up to unit m

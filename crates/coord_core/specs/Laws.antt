@@ -6,7 +6,7 @@ use Rattle.coord_core.specs.declared.event.Event.TheVariants.{Took, Empty, TakeF
 use Rattle.coord_core.specs.declared.event.Main.{Main}
 use Rattle.coord_core.specs.declared.event.Main.TheVariants.{Idle, Generate, Lend}
 use Rattle.coord_core.specs.declared.event.Actions.{Actions}
-use Rattle.coord_core.specs.declared.job.Queued.{Queued}
+use Rattle.coord_core.specs.declared.queue.Queued.{Queued}
 use Rattle.coord_core.specs.State.{State, one_some, owns, payers, queued_at, running_at, in_hand, bytes_in, byte_at, is_gen, precedes}
 use Rattle.coord_core.specs.Decide.{may_generate}
 use Rattle.coord_core.specs.Run.{run, answers}

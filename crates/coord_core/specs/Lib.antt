@@ -5,3 +5,4 @@ pub mod Run
 pub mod Journal
 pub mod Laws
 pub mod Core
+pub mod Board

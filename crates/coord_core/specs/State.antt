@@ -3,7 +3,7 @@ use Rattle.std.specs.Prelude.{ℕ, ◌+◌, ◌==◌, ◌&&◌, ◌||◌, nat_lt
 use Rattle.std.specs.List.{list_any}
 use Rattle.counting.specs.Count.{one_if, times, total}
 use Rattle.coord_core.specs.declared.job.Job.{Job}
-use Rattle.coord_core.specs.declared.job.Queued.{Queued}
+use Rattle.coord_core.specs.declared.queue.Queued.{Queued}
 
 -- units: how many there are to make, and lanes: how many jobs may be out at once
 -- next: the unit to generate next, and gen: the one that is being generated

@@ -4,5 +4,6 @@
 pub mod event;
 pub mod job;
 pub mod laws;
+pub mod queue;
 
 pub use event::{Actions, Event, Main};

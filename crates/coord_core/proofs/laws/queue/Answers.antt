@@ -1,4 +1,4 @@
-use Rattle.coord_core.proofs.Queue.{ordered, short}
+use Rattle.coord_core.proofs.Ordered.{ordered, short}
 use Rattle.coord_core.proofs.laws.queue.Goals as goal
 
 pub returns-clause-order : goal.returns-clause-order

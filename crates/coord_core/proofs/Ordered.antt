@@ -4,7 +4,7 @@ use Rattle.std.proofs.lemmas.Bool.{and_parts, and_cases, not-true, ltb-false, le
 use Rattle.std.proofs.lemmas.Bool.Decides.{nat_tests}
 use Rattle.coord_core.specs.declared.event.Event.{Event}
 use Rattle.coord_core.specs.declared.event.Event.TheVariants.{Took, Empty, TakeFault, Generated, GenFailed, Made, MakeFailed, Wanted, Gave, GiveFault}
-use Rattle.coord_core.specs.declared.job.Queued.{Queued}
+use Rattle.coord_core.specs.declared.queue.Queued.{Queued}
 use Rattle.coord_core.specs.State.{State, one_some, own_of, is_gen, precedes, placed}
 use Rattle.coord_core.specs.Effect.{kept_to, wanted, effect}
 use Rattle.coord_core.specs.Decide.{full_enough, wants, is_free, is_short, passed, pass, started, start, gives, lends, main_by, main, settled, asked, asks_now, may_ask, decided}
