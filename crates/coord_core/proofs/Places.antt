@@ -6,7 +6,7 @@ use Rattle.std.proofs.lemmas.List.Recursion.{is_count_by}
 use Rattle.coord_core.specs.declared.job.Job.{Job}
 use Rattle.coord_core.specs.declared.queue.Queued.{Queued}
 use Rattle.coord_core.specs.State.{one_some, payers, payer_of, jobs_without, paid_by, precedes, placed}
-use Rattle.coord_core.proofs.Jobs.{none_is}
+use Rattle.coord_core.proofs.Jobs.{length-jobs}
 
 pub place_some : {X : Type 0} (p : X → Bool) (xs : List X) (at : ℕ) → position p xs ≡ Some at → (position_or_len p xs ≡ at) × (position_or_len p xs < length xs)
 place_some p xs at is = by (ltb (position_or_len p xs) (length xs)) refl is
@@ -101,9 +101,12 @@ jobs_without-none i (j ∷ js) l = by (eqb j.unit i) l (jobs_without-none i js)
     by true l r = absurd (omega arith)
     by false l r = let h = r (omega arith) in (ap (λ (x : List Job). j ∷ x) h.0, h.1)
 
-pub payers-count : (js : List Job) → count_by (λ j. is_some j.payer) js ≡ payers js
-payers-count js = sym (is_count_by payers (λ (j : Job). is_some j.payer) refl (λ j xs. step j.payer (payers xs)) js)
+pub payers_count : (js : List Job) → count_by (λ j. is_some j.payer) js ≡ payers js
+payers_count js = sym (is_count_by payers (λ (j : Job). is_some j.payer) refl (λ j xs. step j.payer (payers xs)) js)
   where
     step : (o : Option ℕ) (n : ℕ) → one_some o + n ≡ cond (is_some o) (1 + n) n
     step (Some x) n = refl
     step None n = omega arith
+
+pub payers_most : (js : List Job) → payers js ≤ length js
+payers_most js = let l = length-jobs js in omega arith

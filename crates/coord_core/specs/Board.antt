@@ -1,13 +1,27 @@
--- What the queue's ends are.
-use Rattle.std.specs.Prelude.{ℕ, List, [], ◌∷◌, Option, Some, None}
+-- How the code's fields show the state.
+use Rattle.std.specs.Prelude.{◌≡◌, ℕ, ◌+◌, ◌*◌, ◌<◌, ◌≤◌, Bool, true, List, [], ◌∷◌, length, Option, Some, None, vec_capacity, vec_len}
+use Rattle.coord_core.specs.declared.board.Board.{Board}
 use Rattle.coord_core.specs.declared.queue.Queued.{Queued}
+use Rattle.coord_core.specs.State.{State, one_some}
 
--- the unit at the head of the queue
-abbrev pub head_of : List Queued → Option ℕ
-head_of [] = None
-head_of (e ∷ es) = Some e.unit
+-- the state that the fields hold
+abbrev pub state_of : Board → State
+state_of b = record {
+  units = b.units;
+  lanes = b.lanes;
+  next = b.next;
+  gen = b.generating;
+  queue = b.queue.items;
+  running = b.running.items;
+  bar = b.bar;
+  asks = b.asks;
+  asking = b.asking;
+  giving = b.giving.items;
+  spare = b.spare;
+}
 
--- what stands behind it
-abbrev pub rest_of : List Queued → List Queued
-rest_of [] = []
-rest_of (e ∷ es) = es
+-- the lists have memory for all that they can hold
+pub record HasRoom (b : Board) : Type 0 where
+  pub queue : b.units ≤ vec_capacity b.queue
+  pub running : 64 ≤ vec_capacity b.running
+  pub giving : 3 * b.units ≤ vec_capacity b.giving

@@ -6,3 +6,4 @@ pub mod Journal
 pub mod Laws
 pub mod Core
 pub mod Board
+pub mod Queued

@@ -1,6 +1,6 @@
 //! The jobs that are out.
-ghost use Rattle.std.specs.Prelude.{◌≡◌, ◌==◌, vec_capacity, is_none, is_some, position, count_by};
-ghost use Rattle.coord_core.specs.State.{own_of, runs, payer_of, jobs_without, paid_by};
+ghost use Rattle.std.specs.Prelude.{◌≡◌, ◌≤◌, ◌==◌, length, vec_capacity, is_none, position};
+ghost use Rattle.coord_core.specs.State.{own_of, payers, runs, payer_of, jobs_without, paid_by};
 
 /// A job that is out.
 #[derive(Clone, Copy, PartialEq, Eq, Debug, Drop)]
@@ -22,8 +22,10 @@ pub fn own_job(running: &[Job]) -> Option<u32>
 }
 
 // How many jobs a token pays.
+#[tactic(auto, using(crate::proofs::Places::payers_count))]
 pub fn count_paid(running: &[Job]) -> usize
-    ensures { result ≡ count_by (λ j. is_some j.payer) running.now }
+    ensures count { result ≡ payers running.now }
+    ensures most { result ≤ length running.now }
 {
     running.iter().filter(|job| job.payer.is_some()).count()
 }

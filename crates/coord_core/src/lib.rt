@@ -1,6 +1,7 @@
 //! The coordinator as a pure machine over events.
 #![tactic(auto)]
 
+pub mod board;
 pub mod event;
 pub mod job;
 pub mod laws;

@@ -1,8 +1,9 @@
 //! The units that wait to be made, in the order in which they start.
-ghost use Rattle.std.specs.Prelude.{◌≡◌, ◌<◌, position, vec_len, vec_capacity};
+ghost use Rattle.std.specs.Prelude.{◌≡◌, ◌<◌, ◌≤◌, position, vec_len, vec_capacity};
 ghost use Rattle.coord_core.specs.State.{precedes, placed};
 ghost use Rattle.coord_core.specs.Effect.{kept_to};
-ghost use Rattle.coord_core.specs.Board.{head_of, rest_of};
+ghost use Rattle.coord_core.specs.Decide.{full_enough};
+ghost use Rattle.coord_core.specs.Queued.{head_of, rest_of};
 
 /// A unit that was generated and waits to be made.
 #[derive(Clone, Copy, PartialEq, Eq, Debug, Drop)]
@@ -57,4 +58,13 @@ pub fn keep_to(queue: &mut Vec<Queued>, bar: u32)
     ensures capacity { vec_capacity queue.new ≡ vec_capacity queue.old }
 {
     queue.retain(|entry| entry.unit <= bar);
+}
+
+/// Whether so many queued units are enough for so many jobs that none need be generated now: one at
+/// least, and as many as a quarter of the jobs.
+pub fn is_full_enough(queued: usize, running: usize) -> bool
+    requires { running ≤ 64 }
+    ensures { result ≡ full_enough queued running }
+{
+    queued > 0 && queued >= running - 3 * running / 4
 }
