@@ -10,3 +10,4 @@ pub mod Bag
 pub mod Budget
 pub mod Ordered
 pub mod Places
+pub mod Stages

@@ -5,8 +5,7 @@ use Rattle.std.proofs.lemmas.Bool.{ltb-true, ltb-false}
 use Rattle.std.proofs.lemmas.List.Recursion.{is_count_by}
 use Rattle.coord_core.specs.declared.job.Job.{Job}
 use Rattle.coord_core.specs.declared.queue.Queued.{Queued}
-use Rattle.coord_core.specs.State.{one_some, payers, payer_of, jobs_without, paid_by, precedes, placed}
-use Rattle.coord_core.proofs.Jobs.{length-jobs}
+use Rattle.coord_core.specs.State.{one_some, payers, payer_of, jobs_without, paid_by, precedes, placed, bytes_without}
 
 pub place_some : {X : Type 0} (p : X → Bool) (xs : List X) (at : ℕ) → position p xs ≡ Some at → (position_or_len p xs ≡ at) × (position_or_len p xs < length xs)
 place_some p xs at is = by (ltb (position_or_len p xs) (length xs)) refl is
@@ -108,5 +107,24 @@ payers_count js = sym (is_count_by payers (λ (j : Job). is_some j.payer) refl (
     step (Some x) n = refl
     step None n = omega arith
 
-pub payers_most : (js : List Job) → payers js ≤ length js
-payers_most js = let l = length-jobs js in omega arith
+pub bytes_without-remove : (b : ℕ) (l : List ℕ) → position_or_len (λ x. eqb x b) l < length l → bytes_without b l ≡ remove l (position_or_len (λ x. eqb x b) l)
+bytes_without-remove b [] l = absurd (omega arith)
+bytes_without-remove b (x ∷ xs) l = by (eqb x b) l (bytes_without-remove b xs)
+  where
+    k : ℕ
+    k = position_or_len (λ (y : ℕ). eqb y b) xs
+
+    by : (t : Bool) → cond (not t) (1 + k) 0 < length (x ∷ xs) → (k < length xs → bytes_without b xs ≡ remove xs k) → cond t xs (x ∷ bytes_without b xs) ≡ remove (x ∷ xs) (cond (not t) (1 + k) 0)
+    by true l r = refl
+    by false l r = ap (λ (z : List ℕ). x ∷ z) (r (omega arith)) ∙ ap (λ (n : ℕ). remove (x ∷ xs) n) (let z : suc k ≡ 1 + k = omega arith in z)
+
+pub bytes_without-none : (b : ℕ) (l : List ℕ) → length l ≤ position_or_len (λ x. eqb x b) l → bytes_without b l ≡ l
+bytes_without-none b [] l = refl
+bytes_without-none b (x ∷ xs) l = by (eqb x b) l (bytes_without-none b xs)
+  where
+    k : ℕ
+    k = position_or_len (λ (y : ℕ). eqb y b) xs
+
+    by : (t : Bool) → length (x ∷ xs) ≤ cond (not t) (1 + k) 0 → (length xs ≤ k → bytes_without b xs ≡ xs) → cond t xs (x ∷ bytes_without b xs) ≡ x ∷ xs
+    by true l r = absurd (omega arith)
+    by false l r = ap (λ (z : List ℕ). x ∷ z) (r (omega arith))

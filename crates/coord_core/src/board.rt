@@ -1,13 +1,16 @@
 //! The state in code: each decision is a step that leaves the definition's state.
-ghost use Rattle.std.specs.Prelude.{◌≡◌, ◌+◌, ◌*◌, ◌<◌, ◌≤◌, ◌&&◌, length, true, false};
+ghost use Rattle.std.specs.Prelude.{◌≡◌, ◌+◌, ◌*◌, ◌<◌, ◌≤◌, ◌&&◌, length, nat_lt, true, false, Some, None, IfOk, if◌then◌else◌};
 ghost use Rattle.coord_core.specs.State.{one_some, is_gen, bytes_in, own_of};
 ghost use Rattle.coord_core.specs.Effect.{cut, ended, gen_ended, wanted, generated, effect};
-ghost use Rattle.coord_core.specs.Decide.{may_generate, wants, full_enough, is_free, is_short, pass, pass_by, start, start_by, give, main, main_act, lends, lend_by, asks_now, ask};
-ghost use Rattle.coord_core.specs.Run.{is_awaited, is_finished};
+ghost use Rattle.coord_core.specs.Decide.{may_generate, wants, full_enough, is_free, is_short, pass, pass_by, start, start_by, give, main, main_act, lends, lend_by, asks_now, ask, decided, actions_of};
+ghost use Rattle.coord_core.specs.Run.{first, is_awaited, is_finished};
+ghost use Rattle.coord_core.specs.Laws.{Bounded, Fits};
 
 use crate::event::{Actions, Event, Main};
+use crate::giving;
 use crate::job::{self, Job};
 use crate::queue::{self, Queued};
+use std::alloc::{AllocError, Global};
 
 /// What the coordinator knows.
 #[derive(Drop)]
@@ -38,6 +41,36 @@ pub struct Board {
 
 impl Board {
     ghost use Rattle.coord_core.specs.Board.{state_of, HasRoom};
+
+    /// The state before anything is decided, with memory for all that it will hold.
+    pub fn new(alloc: Global, units: u32, lanes: u8) -> Result<Board, AllocError>
+        requires { units ≤ 65536 }
+        ensures { IfOk result (λ b. (state_of b ≡ first units lanes) × HasRoom b) }
+    {
+        let queue = Vec::with_capacity(alloc, units as usize)?;
+        let running = Vec::with_capacity(alloc, 64)?;
+        let giving = Vec::with_capacity(alloc, 3 * units as usize)?;
+        Ok(Board {
+            units,
+            lanes,
+            next: 0,
+            generating: None,
+            queue,
+            running,
+            bar: units,
+            asks: true,
+            asking: false,
+            giving,
+            spare: None,
+        })
+    }
+
+    /// The bar, where a unit failed.
+    pub fn first_failure(&self) -> Option<u32>
+        ensures { result ≡ (if nat_lt self.now.bar self.now.units then Some self.now.bar else None) }
+    {
+        (self.bar < self.units).then_some(self.bar)
+    }
 
     // A failure of the unit: what waits above it is dropped.
     fn cut(&mut self, unit: u32)
@@ -232,5 +265,89 @@ impl Board {
             self.asking = true;
         }
         asks
+    }
+
+    /// Whether the event answers an action that is out.
+    pub fn is_awaited(&self, event: &Event) -> bool
+        ensures { result ≡ is_awaited (state_of self.now) event.now }
+    {
+        match *event {
+            Event::Took(_) | Event::Empty | Event::TakeFault => self.asking,
+            Event::Generated(unit, _) | Event::GenFailed(unit) => self.is_generating(unit),
+            Event::Made(unit) | Event::MakeFailed(unit) => job::is_running(&self.running, unit),
+            Event::Wanted(unit) => {
+                self.is_generating(unit) || job::is_running(&self.running, unit)
+            }
+            Event::Gave(byte) | Event::GiveFault(byte) => giving::has_byte(&self.giving, byte),
+        }
+    }
+
+    /// Whether no job, generation, ask or give is out.
+    pub fn is_finished(&self) -> bool
+        ensures { result ≡ is_finished (state_of self.now) }
+    {
+        self.running.is_empty()
+            && self.generating.is_none()
+            && !self.asking
+            && self.giving.is_empty()
+    }
+
+    /// What the event itself changes.
+    pub fn take_in(&mut self, event: Event)
+        requires room { HasRoom self.old }
+        requires fits { Fits self.old.units (state_of self.old) }
+        requires awaited { is_awaited (state_of self.old) event ≡ true }
+        ensures state { state_of self.new ≡ effect event (state_of self.old) }
+        ensures room { HasRoom self.new }
+    {
+        match event {
+            Event::Took(byte) => {
+                self.asking = false;
+                self.spare = Some(byte);
+            }
+            Event::Empty => self.asking = false,
+            Event::TakeFault => {
+                self.asking = false;
+                self.asks = false;
+            }
+            Event::Generated(unit, cost) => self.generated(unit, cost),
+            Event::GenFailed(unit) => {
+                self.generating = None;
+                self.cut(unit);
+            }
+            Event::Made(unit) => self.end(unit),
+            Event::MakeFailed(unit) => {
+                self.end(unit);
+                self.cut(unit);
+            }
+            Event::Wanted(unit) => self.wanted(unit),
+            Event::Gave(byte) | Event::GiveFault(byte) => {
+                giving::take_byte(&mut self.giving, byte);
+            }
+        }
+    }
+
+    /// What is decided after an event, in this order.
+    pub fn decide(&mut self, may_ask: bool) -> Actions
+        requires room { HasRoom self.old }
+        requires fits { Fits self.old.units (state_of self.old) }
+        requires bound { Bounded self.old.lanes (state_of self.old) }
+        requires lanes { self.old.lanes ≤ 64 }
+        ensures state { state_of self.new ≡ decided may_ask (state_of self.old) }
+        ensures actions { result ≡ actions_of may_ask (state_of self.old) }
+        ensures room { HasRoom self.new }
+    {
+        let pass = self.pass();
+        let start = self.start();
+        let give = self.give();
+        let main = self.fill_slot();
+        let ask = self.ask(may_ask);
+        Actions {
+            pass,
+            start,
+            give,
+            main,
+            ask,
+        }
     }
 }

@@ -1,4 +1,6 @@
 //! What the coordinator is told, and what it answers.
+ghost use Rattle.std.specs.Prelude.{◌≡◌};
+ghost use Rattle.coord_core.specs.Decide.{may_ask};
 
 /// What came of an action that was out. A byte is a token's, and a number names a unit by its index.
 #[derive(Clone, Copy, PartialEq, Eq, Debug, Drop)]
@@ -23,6 +25,24 @@ pub enum Event {
     Gave(u8),
     /// The token could not be given back, and is lost.
     GiveFault(u8),
+}
+
+impl Event {
+    // Whether a token may be asked for after it: not where it says that none is to be had, nor after a
+    // give, which came of having no work for one.
+    pub fn may_ask(&self) -> bool
+        ensures { result ≡ may_ask self.now }
+    {
+        match *self {
+            Event::Empty | Event::TakeFault | Event::Gave(_) | Event::GiveFault(_) => false,
+            Event::Took(_)
+            | Event::Generated(_, _)
+            | Event::GenFailed(_)
+            | Event::Made(_)
+            | Event::MakeFailed(_)
+            | Event::Wanted(_) => true,
+        }
+    }
 }
 
 /// What the caller's own thread, which has the implicit slot, is to do.

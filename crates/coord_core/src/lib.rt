@@ -2,9 +2,12 @@
 #![tactic(auto)]
 
 pub mod board;
+pub mod core;
 pub mod event;
+pub mod giving;
 pub mod job;
 pub mod laws;
 pub mod queue;
 
+pub use core::Core;
 pub use event::{Actions, Event, Main};
