@@ -104,7 +104,7 @@ kept-le s = let a = passed-le s.spare (own_of s.running) (wants s) refl in let b
     started-le t (Some b) [] is = omega arith
     started-le t None q is = omega arith
 
-gen-count : (m : Main) (g : Option ℕ) (next units : ℕ) → ((i : ℕ) → m ≡ Generate i → (g ≡ None) × (i ≡ next) × (i < units)) → (one_some (gen_or m g) ≡ one_some g + length (begun_by m)) × (next ≤ units → next + length (begun_by m) ≤ units)
+pub gen-count : (m : Main) (g : Option ℕ) (next units : ℕ) → ((i : ℕ) → m ≡ Generate i → (g ≡ None) × (i ≡ next) × (i < units)) → (one_some (gen_or m g) ≡ one_some g + length (begun_by m)) × (next ≤ units → next + length (begun_by m) ≤ units)
 gen-count Idle g next units h = (omega arith, λ l. omega arith)
 gen-count (Lend i) g next units h = (omega arith, λ l. omega arith)
 gen-count (Generate i) g next units h = let b = h i refl in let e : one_some g ≡ 0 = ap one_some b.0 in let n = b.1 in let k = b.2 in (omega arith, λ l. omega arith)

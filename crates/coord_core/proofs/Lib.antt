@@ -11,3 +11,4 @@ pub mod Budget
 pub mod Ordered
 pub mod Places
 pub mod Stages
+pub mod Continued
