@@ -30,7 +30,7 @@ pub enum Event {
 impl Event {
     // Whether a token may be asked for after it: not where it says that none is to be had, nor after a
     // give, which came of having no work for one.
-    pub fn may_ask(&self) -> bool
+    pub(crate) fn may_ask(&self) -> bool
         ensures { result ≡ may_ask self.now }
     {
         match *self {

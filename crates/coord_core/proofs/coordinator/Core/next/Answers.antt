@@ -9,7 +9,7 @@ use Rattle.coord_core.specs.Board.{state_of}
 use Rattle.coord_core.specs.Core.{CoreState, core_state, state_in, after_event, IsCore}
 use Rattle.coord_core.proofs.Budget.{fits}
 use Rattle.coord_core.proofs.Continued.{bounded-told, fits-told, room-told, units-step, lanes-step, core-told}
-use Rattle.coord_core.proofs.core.Core.next.Goals as goal
+use Rattle.coord_core.proofs.coordinator.Core.next.Goals as goal
 
 pub take_in-requires-clause-fits : goal.take_in-requires-clause-fits
 take_in-requires-clause-fits c =

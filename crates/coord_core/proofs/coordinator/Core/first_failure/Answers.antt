@@ -3,7 +3,7 @@ use Rattle.coord_core.specs.State.{State}
 use Rattle.coord_core.specs.Journal.{least, failed}
 use Rattle.coord_core.specs.Core.{CoreState}
 use Rattle.coord_core.proofs.Bar.{first_failure_is}
-use Rattle.coord_core.proofs.core.Core.first_failure.Goals as goal
+use Rattle.coord_core.proofs.coordinator.Core.first_failure.Goals as goal
 
 pub returns : goal.returns
 returns c =
