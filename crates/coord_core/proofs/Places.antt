@@ -48,8 +48,6 @@ place_or_end p xs = by (ltb (position_or_len p xs) (length xs)) refl
     by true l = refl
     by false l = let a = ltb-false _ _ l in let b = place-most p xs in omega arith
 
-
-
 pub paid_by-set : (b : ℕ) (js : List Job) (d : Job) → position_or_len (λ j. is_none j.payer) js < length js → paid_by b js ≡ set js (position_or_len (λ j. is_none j.payer) js) (record { unit = (get_or js (position_or_len (λ j. is_none j.payer) js) d).unit; payer = Some b })
 paid_by-set b [] d l = absurd (omega arith)
 paid_by-set b (j ∷ js) d l = by (is_none j.payer) l (paid_by-set b js d)

@@ -86,3 +86,6 @@ impl Core {
         self.board.first_failure()
     }
 }
+
+#[cfg(test)]
+mod tests;

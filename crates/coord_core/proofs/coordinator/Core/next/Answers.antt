@@ -41,10 +41,11 @@ invariant_of-self c =
     let out = subst (λ (v : CoreState). is_awaited (state_in v) e ≡ true) (sym c.self.view_is) c.requires in
     let stepped = c.decide-actions.ensures.state ∙ ap (λ (m : Bool). decided m (state_of c.take_in.new.self)) c.may_ask.ensures ∙ ap (decided (may_ask e)) (c.take_in.ensures.state ∙ ap (effect e) i.state) in
     let kept = c.push_reserved.ensures.capacity in let k = i.room in
-    let told = core-told b.units b.lanes j.items e i.lawful out i.some_lane i.most_lanes (vec_capacity c.push_reserved.new.self) (omega arith) in
-    (subst (λ (s : State). IsCore s c.push_reserved.new.self.items (vec_capacity c.push_reserved.new.self)) (sym stepped)
-        (subst (λ (l : List Event). IsCore (step (run b.units b.lanes j.items) e) l (vec_capacity c.push_reserved.new.self)) (sym c.push_reserved.ensures.items) told),
-     c.decide-actions.ensures.room)
+    let told = core-told b.units b.lanes j.items e i.lawful out i.some_lane i.most_lanes (vec_capacity c.push_reserved.new.self) (omega arith) in (
+      subst (λ (s : State). IsCore s c.push_reserved.new.self.items (vec_capacity c.push_reserved.new.self)) (sym stepped)
+          (subst (λ (l : List Event). IsCore (step (run b.units b.lanes j.items) e) l (vec_capacity c.push_reserved.new.self)) (sym c.push_reserved.ensures.items) told),
+      c.decide-actions.ensures.room,
+    )
 
 pub returns-clause-journal : goal.returns-clause-journal
 returns-clause-journal c =
