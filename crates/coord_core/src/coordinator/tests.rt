@@ -21,6 +21,32 @@ fn slot(main: Main) -> Actions {
     Actions { main, ..NOTHING }
 }
 
+// The slot is lent to the unit, and a token is to be asked for.
+fn lend_and_ask(unit: u32) -> Actions {
+    Actions {
+        main: Main::Lend(unit),
+        ask: true,
+        ..NOTHING
+    }
+}
+
+// The token pays the unit's job, and the next one is generated on the slot.
+fn pass_and_generate(byte: u8, unit: u32, next: u32) -> Actions {
+    Actions {
+        pass: Some((byte, unit)),
+        main: Main::Generate(next),
+        ..NOTHING
+    }
+}
+
+// The token is to be given back.
+fn give(byte: u8) -> Actions {
+    Actions {
+        give: Some(byte),
+        ..NOTHING
+    }
+}
+
 // Tells the event, which must be awaited.
 fn told(rt: &impl Abort, core: &mut Core, event: Event) -> Actions {
     assert!(rt; core.is_awaited(&event), "{event:?} is not awaited");
@@ -66,32 +92,13 @@ fn one_lane(rt: HostRuntime) -> Result<(), Fail> {
 fn one_token(rt: HostRuntime) -> Result<(), Fail> {
     let (mut core, actions) = Core::new(rt.alloc(), 3, 2)?;
     assert_eq!(rt; actions, slot(Main::Generate(0)));
-    let lend_and_ask = Actions {
-        main: Main::Lend(0),
-        ask: true,
-        ..NOTHING
-    };
-    let pass_to_0 = Actions {
-        pass: Some((0x61, 0)),
-        main: Main::Generate(1),
-        ..NOTHING
-    };
-    let pass_to_1 = Actions {
-        pass: Some((0x61, 1)),
-        main: Main::Generate(2),
-        ..NOTHING
-    };
-    let give = Actions {
-        give: Some(0x61),
-        ..NOTHING
-    };
     let run = [
-        (Event::Generated(0, 9), lend_and_ask),
-        (Event::Took(0x61), pass_to_0),
+        (Event::Generated(0, 9), lend_and_ask(0)),
+        (Event::Took(0x61), pass_and_generate(0x61, 0, 1)),
         (Event::Generated(1, 4), slot(Main::Lend(1))),
-        (Event::Made(0), pass_to_1),
+        (Event::Made(0), pass_and_generate(0x61, 1, 2)),
         (Event::Generated(2, 7), slot(Main::Lend(2))),
-        (Event::Made(1), give),
+        (Event::Made(1), give(0x61)),
         (Event::Gave(0x61), NOTHING),
         (Event::Made(2), NOTHING),
     ];
@@ -105,13 +112,8 @@ fn one_token(rt: HostRuntime) -> Result<(), Fail> {
 fn pool_cannot_be_read(rt: HostRuntime) -> Result<(), Fail> {
     let (mut core, actions) = Core::new(rt.alloc(), 3, 2)?;
     assert_eq!(rt; actions, slot(Main::Generate(0)));
-    let lend_and_ask = Actions {
-        main: Main::Lend(0),
-        ask: true,
-        ..NOTHING
-    };
     let run = [
-        (Event::Generated(0, 9), lend_and_ask),
+        (Event::Generated(0, 9), lend_and_ask(0)),
         (Event::TakeFault, NOTHING),
         (Event::Made(0), slot(Main::Generate(1))),
         (Event::Generated(1, 4), slot(Main::Lend(1))),
@@ -138,34 +140,15 @@ fn no_memory_to_generate(rt: HostRuntime) -> Result<(), Fail> {
 fn a_lesser_unit_fails_later(rt: HostRuntime) -> Result<(), Fail> {
     let (mut core, actions) = Core::new(rt.alloc(), 4, 2)?;
     assert_eq!(rt; actions, slot(Main::Generate(0)));
-    let lend_and_ask = Actions {
-        main: Main::Lend(0),
-        ask: true,
-        ..NOTHING
-    };
-    let pass_to_0 = Actions {
-        pass: Some((0x61, 0)),
-        main: Main::Generate(1),
-        ..NOTHING
-    };
-    let pass_to_1 = Actions {
-        pass: Some((0x61, 1)),
-        main: Main::Generate(2),
-        ..NOTHING
-    };
-    let give = Actions {
-        give: Some(0x61),
-        ..NOTHING
-    };
     let run = [
-        (Event::Generated(0, 1), lend_and_ask),
-        (Event::Took(0x61), pass_to_0),
+        (Event::Generated(0, 1), lend_and_ask(0)),
+        (Event::Took(0x61), pass_and_generate(0x61, 0, 1)),
         (Event::Generated(1, 5), slot(Main::Lend(1))),
-        (Event::Made(0), pass_to_1),
+        (Event::Made(0), pass_and_generate(0x61, 1, 2)),
         (Event::Generated(2, 3), slot(Main::Lend(2))),
         (Event::Made(2), slot(Main::Generate(3))),
         (Event::GenFailed(3), NOTHING),
-        (Event::MakeFailed(1), give),
+        (Event::MakeFailed(1), give(0x61)),
         (Event::Gave(0x61), NOTHING),
     ];
     told_all(&rt, &mut core, &run);

@@ -5,6 +5,8 @@ use super::super::*;
 use super::plain::Plain;
 use super::{NOTHING, told};
 use crate::event::Main;
+use crate::job::Job;
+use crate::queue::Queued;
 use std::process::Abort;
 use std::test::Fail;
 
@@ -92,37 +94,88 @@ fn note(outs: &mut Vec<Out>, actions: &Actions) -> Result<(), AllocError> {
     Ok(())
 }
 
-// The two know the same.
-fn same_state(rt: &impl Abort, core: &Core, plain: &Plain) {
+// Both have the same units waiting.
+fn same_queue(core: &[Queued], plain: &[(u32, u32)]) -> bool {
+    core.len() == plain.len()
+        && core.iter().all(|entry| {
+            plain
+                .iter()
+                .any(|other| other.0 == entry.cost && other.1 == entry.unit)
+        })
+}
+
+// Both have the same jobs out.
+fn same_jobs(core: &[Job], plain: &[(u32, Option<u8>)]) -> bool {
+    core.len() == plain.len()
+        && core.iter().all(|job| {
+            plain
+                .iter()
+                .any(|other| other.0 == job.unit && other.1 == job.payer)
+        })
+}
+
+fn times(bytes: &[u8], byte: u8) -> usize {
+    bytes.iter().filter(|other| **other == byte).count()
+}
+
+// Both give back the same bytes, each as often.
+fn same_bytes(core: &[u8], plain: &[u8]) -> bool {
+    core.len() == plain.len()
+        && core
+            .iter()
+            .all(|byte| times(core, *byte) == times(plain, *byte))
+}
+
+// Both know the same.
+fn same(core: &Core, plain: &Plain) -> bool {
     let board = &core.board;
-    assert_eq!(rt; board.next, plain.next);
-    assert_eq!(rt; board.generating, plain.generating);
-    assert_eq!(rt; board.bar, plain.bar());
-    assert_eq!(rt; board.asks, plain.asks);
-    assert_eq!(rt; board.asking, plain.asking);
-    assert_eq!(rt; board.spare, plain.spare);
-    assert_eq!(rt; board.queue.len(), plain.queue.len());
-    for entry in &board.queue {
-        let known = plain
-            .queue
-            .iter()
-            .any(|other| other.0 == entry.cost && other.1 == entry.unit);
-        assert!(rt; known, "{entry:?} is not queued");
+    board.next == plain.next
+        && board.generating == plain.generating
+        && board.bar == plain.bar()
+        && board.asks == plain.asks
+        && board.asking == plain.asking
+        && board.spare == plain.spare
+        && same_queue(&board.queue, &plain.queue)
+        && same_jobs(&board.running, &plain.running)
+        && same_bytes(&board.giving, &plain.giving)
+        && core.finished() == plain.finished()
+}
+
+// Both are told the event, and answer the same and know the same then.
+fn told_both(
+    rt: &impl Abort,
+    core: &mut Core,
+    plain: &mut Plain,
+    event: Event,
+) -> Result<Actions, AllocError> {
+    let actions = told(rt, core, event);
+    let other = plain.next(Some(event))?;
+    assert!(rt; actions == other, "after {event:?}");
+    assert!(rt; same(core, plain), "after {event:?}");
+    Ok(actions)
+}
+
+// Draws answers until none is awaited.
+fn run_both(
+    rt: &impl Abort,
+    alloc: Global,
+    first: Actions,
+    core: &mut Core,
+    plain: &mut Plain,
+    draw: &mut Draw,
+) -> Result<(), AllocError> {
+    let mut outs = Vec::new(alloc);
+    let mut actions = first;
+    for _ in 0..8 * 64 + 1 {
+        note(&mut outs, &actions)?;
+        if outs.is_empty() {
+            break;
+        }
+        let at = draw.below(outs.len());
+        let event = draw.answer(outs.swap_remove(at));
+        actions = told_both(rt, core, plain, event)?;
     }
-    assert_eq!(rt; board.running.len(), plain.running.len());
-    for job in &board.running {
-        let known = plain
-            .running
-            .iter()
-            .any(|other| other.0 == job.unit && other.1 == job.payer);
-        assert!(rt; known, "{job:?} does not run");
-    }
-    assert_eq!(rt; board.giving.len(), plain.giving.len());
-    for byte in &board.giving {
-        let here = board.giving.iter().filter(|other| **other == *byte).count();
-        let there = plain.giving.iter().filter(|other| **other == *byte).count();
-        assert_eq!(rt; here, there, "of {byte}");
-    }
+    Ok(())
 }
 
 // One run of both machines, whose answers are drawn.
@@ -132,31 +185,17 @@ fn compare(
     units: u32,
     lanes: u8,
     draw: &mut Draw,
-) -> Result<(), Fail> {
-    assert!(rt; units <= 65536 && 0 < lanes && lanes <= 64);
+) -> Result<(), AllocError> {
+    assert!(rt; units <= 64 && 0 < lanes && lanes <= 64);
     let (mut core, first) = Core::new(alloc, units, lanes)?;
     let mut plain = Plain::new(alloc, units, lanes);
-    assert_eq!(rt; plain.next(None)?, first);
-    let mut outs = Vec::new(alloc);
-    note(&mut outs, &first)?;
-    for _ in 0..8 * units {
-        same_state(rt, &core, &plain);
-        assert_eq!(rt; core.finished(), outs.is_empty());
-        if outs.is_empty() {
-            break;
-        }
-        let at = draw.below(outs.len());
-        let event = draw.answer(outs.swap_remove(at));
-        let actions = told(rt, &mut core, event);
-        assert_eq!(rt; actions, plain.next(Some(event))?, "after {event:?}");
-        note(&mut outs, &actions)?;
-    }
+    let other = plain.next(None)?;
+    assert!(rt; first == other && same(&core, &plain));
+    run_both(rt, alloc, first, &mut core, &mut plain, draw)?;
     assert!(rt; core.finished() && plain.finished());
     let bar = plain.bar();
-    assert_eq!(rt;
-        core.first_failure(),
-        if bar < units { Some(bar) } else { None }
-    );
+    let failure = if bar < units { Some(bar) } else { None };
+    assert!(rt; core.first_failure() == failure);
     Ok(())
 }
 
@@ -176,13 +215,8 @@ fn beside_the_plain_one(rt: HostRuntime) -> Result<(), Fail> {
         let units = draw.below(40) as u32;
         let lanes = draw.below(64) as u8 + 1;
         let few = draw.below(6) as u8 + 1;
-        compare(
-            &rt,
-            rt.alloc(),
-            units,
-            if seed % 2 == 0 { lanes } else { few },
-            &mut draw,
-        )?;
+        let lanes = if seed % 2 == 0 { lanes } else { few };
+        compare(&rt, rt.alloc(), units, lanes, &mut draw)?;
     }
     Ok(())
 }

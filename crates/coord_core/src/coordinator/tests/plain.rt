@@ -199,31 +199,30 @@ impl Plain {
         }
     }
 
-    fn ask(&mut self, event: Event) -> bool {
-        let told_none = matches!(
-            event,
-            Event::Empty | Event::TakeFault | Event::Gave(_) | Event::GiveFault(_)
-        );
+    fn has_lane(&self) -> bool {
         let paid = self.running.iter().filter(|job| job.1.is_some()).count();
-        let work = !self.queue.is_empty() || (self.own().is_some() && self.may_generate());
-        let lane = paid.saturating_add(2) <= self.lanes as usize;
-        let ask = self.asks && !self.asking && !told_none && lane && work;
+        paid.saturating_add(2) <= self.lanes as usize
+    }
+
+    fn has_work(&self) -> bool {
+        !self.queue.is_empty() || (self.own().is_some() && self.may_generate())
+    }
+
+    fn ask(&mut self, told_none: bool) -> bool {
+        let ask = self.asks && !self.asking && !told_none && self.has_lane() && self.has_work();
         if ask {
             self.asking = true;
         }
         ask
     }
 
-    /// What is done first, where no event was told yet, or after the event.
-    pub fn next(&mut self, event: Option<Event>) -> Result<Actions, AllocError> {
-        if let Some(event) = event {
-            self.take_in(event)?;
-        }
+    // The decisions, in order.
+    fn decide(&mut self, told_none: bool) -> Result<Actions, AllocError> {
         let pass = self.pass()?;
         let start = self.start()?;
         let give = self.give()?;
         let main = self.main()?;
-        let ask = self.ask(event.unwrap_or(Event::Took(0)));
+        let ask = self.ask(told_none);
         Ok(Actions {
             pass,
             start,
@@ -231,5 +230,20 @@ impl Plain {
             main,
             ask,
         })
+    }
+
+    /// What is done first, where no event was told yet, or after the event.
+    pub fn next(&mut self, event: Option<Event>) -> Result<Actions, AllocError> {
+        match event {
+            None => self.decide(false),
+            Some(event) => {
+                self.take_in(event)?;
+                let told_none = matches!(
+                    event,
+                    Event::Empty | Event::TakeFault | Event::Gave(_) | Event::GiveFault(_)
+                );
+                self.decide(told_none)
+            }
+        }
     }
 }
