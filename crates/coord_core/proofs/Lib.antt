@@ -12,3 +12,4 @@ pub mod Ordered
 pub mod Places
 pub mod Stages
 pub mod Continued
+mod Worked

@@ -101,9 +101,13 @@ may_ask (Wanted i) = true
 may_ask (Gave b) = false
 may_ask (GiveFault b) = false
 
+-- a token would have work: a queued unit, or one to generate if it freed the slot
+abbrev pub has_work : State → Bool
+has_work s = not (is_empty s.queue) || (not (is_none (own_of s.running)) && may_generate s)
+
 -- a lane is free that a token could pay for, and there is work for it
 abbrev pub asks_now : State → Bool
-asks_now s = s.asks && not s.asking && nat_lt (payers s.running + 1) s.lanes && (not (is_empty s.queue) || (not (is_none (own_of s.running)) && may_generate s))
+asks_now s = s.asks && not s.asking && nat_lt (payers s.running + 1) s.lanes && has_work s
 
 abbrev pub asked : State → Bool → State
 asked s true = record s { asking = true }

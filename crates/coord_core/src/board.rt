@@ -2,7 +2,7 @@
 ghost use Rattle.std.specs.Prelude.{◌≡◌, ◌+◌, ◌*◌, ◌<◌, ◌≤◌, ◌&&◌, length, nat_lt, true, false, Some, None, IfOk, if◌then◌else◌};
 ghost use Rattle.coord_core.specs.State.{one_some, is_gen, bytes_in, own_of};
 ghost use Rattle.coord_core.specs.Effect.{cut, ended, gen_ended, wanted, generated, effect};
-ghost use Rattle.coord_core.specs.Decide.{may_generate, wants, full_enough, is_free, is_short, pass, pass_by, start, start_by, give, main, main_act, lends, lend_by, asks_now, ask, decided, actions_of};
+ghost use Rattle.coord_core.specs.Decide.{may_generate, wants, full_enough, is_free, is_short, pass, pass_by, start, start_by, give, main, main_act, lends, lend_by, has_work, asks_now, ask, decided, actions_of};
 ghost use Rattle.coord_core.specs.Run.{first, is_awaited, is_finished};
 ghost use Rattle.coord_core.specs.Laws.{Bounded, Fits};
 
@@ -243,15 +243,19 @@ impl Board {
         }
     }
 
+    // Whether a token would have work: a unit that waits, or one to generate if the slot were free.
+    fn has_work(&self) -> bool
+        ensures { result ≡ has_work (state_of self.now) }
+    {
+        !self.queue.is_empty() || (job::own_job(&self.running).is_some() && self.may_generate())
+    }
+
     // Whether a token has work, and a lane is free that it could pay for.
     fn asks_now(&self) -> bool
         ensures { result ≡ asks_now (state_of self.now) }
     {
-        self.asks
-            && !self.asking
-            && job::count_paid(&self.running) + 1 < self.lanes as usize
-            && (!self.queue.is_empty()
-                || (job::own_job(&self.running).is_some() && self.may_generate()))
+        let may = self.asks && !self.asking;
+        may && job::count_paid(&self.running) + 1 < self.lanes as usize && self.has_work()
     }
 
     // A token is asked for, if one may be.
