@@ -1,7 +1,7 @@
 -- At most eight events a unit.
 use Rattle.std.proofs.Common.{◌≡◌, ◌⊎◌, inl, inr, ℕ, ◌+◌, ◌-◌, ◌<◌, ◌≤◌, ◌*◌, ltb, min, Bool, true, false, not, ◌&&◌, ◌||◌, cond, List, [], ◌∷◌, ◌++◌, length, length-append, Option, Some, None, is_none, option_to_list, sym, refl, ap, ◌∙◌, subst, arith}
 use Rattle.std.proofs.lemmas.Bool.{and_parts, and_right}
-use Rattle.counting.specs.Count.{one_if}
+use Rattle.counting.specs.Count.{one_if, total}
 use Rattle.coord_core.specs.declared.event.Event.{Event}
 use Rattle.coord_core.specs.declared.event.Event.TheVariants.{Took, Empty, TakeFault, Generated, GenFailed, Made, MakeFailed, Wanted, Gave, GiveFault}
 use Rattle.coord_core.specs.declared.event.Main.{Main}
@@ -11,8 +11,8 @@ use Rattle.coord_core.specs.State.{State, one_some, payers, own_of, is_gen, runs
 use Rattle.coord_core.specs.Effect.{wanted, effect}
 use Rattle.coord_core.specs.Decide.{may_generate, wants, is_free, is_short, passed, pass, started, start, gives, give, lends, main_by, main, asks_now, settled, may_ask, decided, actions_of}
 use Rattle.coord_core.specs.Run.{first, opened, step, run_from, run, is_awaited, LawfulFrom, Lawful}
-use Rattle.coord_core.specs.Journal.{begun_by}
-use Rattle.coord_core.specs.Laws.{gen_or, Fits}
+use Rattle.coord_core.specs.Journal.{begun_by, of_unit, of_ask, of_give}
+use Rattle.coord_core.specs.Laws.{gen_or, Fits, Few}
 use Rattle.coord_core.proofs.Jobs.{none_is, gen_is, length-jobs, length-without, payers-without, length-placed, length-kept_to, length-bytes_without}
 use Rattle.coord_core.proofs.Acted.{acted, decided-spare}
 use Rattle.coord_core.proofs.Hand.{effect-next}
@@ -151,57 +151,57 @@ queued-length true e q = let p = length-placed e q in omega arith
 queued-length false e q = omega arith
 
 -- one event more is counted
-abbrev Next : (g o a v u : ℕ) → State → Type 0
-Next g o a v u s = (g' : ℕ) × (o' : ℕ) × (a' : ℕ) × (v' : ℕ) × (u' : ℕ) × (g' + o' + a' + v' ≡ g + o + a + v + 1) × Budget g' o' a' v' u' s
+abbrev Next : (g o a v u : ℕ) → Event → State → Type 0
+Next g o a v u e s = (g' : ℕ) × (o' : ℕ) × (a' : ℕ) × (v' : ℕ) × (u' : ℕ) × (g' + o' ≡ g + o + of_unit e) × (a' ≡ a + of_ask e) × (v' ≡ v + of_give e) × Budget g' o' a' v' u' s
 
 module _ (g o a v u : ℕ) (s : State) (none : s.spare ≡ None) (h : Budget g o a v u s) where
-  gen-failed : (i : ℕ) → is_gen i s.gen ≡ true → Next g o a v u (step s (GenFailed i))
+  gen-failed : (i : ℕ) → is_gen i s.gen ≡ true → Next g o a v u (GenFailed i) (step s (GenFailed i))
   gen-failed i out =
       let h0 = h.gen in let h1 = h.most in let h2 = h.jobs in let h3 = h.asks in let h4 = h.pays in let h5 = h.gave in
       let z : one_some s.spare ≡ 0 = ap one_some none in
       let t = effect (GenFailed i) s in
       let x = ask_or_give true t in let y = kept-le t in
       let e = gen-one i s.gen out in let f = length-kept_to (min s.bar i) s.queue in
-      (g + 1, o, a, v, u, omega arith, decided-budget (g + 1) o a v u true t (record { gen = omega arith; most = omega arith; jobs = omega arith; asks = omega arith; pays = omega arith; gave = omega arith }))
+      (g + 1, o, a, v, u, omega arith, omega arith, omega arith, decided-budget (g + 1) o a v u true t (record { gen = omega arith; most = omega arith; jobs = omega arith; asks = omega arith; pays = omega arith; gave = omega arith }))
 
-  make-failed : (i : ℕ) → runs i s.running ≡ true → Next g o a v u (step s (MakeFailed i))
+  make-failed : (i : ℕ) → runs i s.running ≡ true → Next g o a v u (MakeFailed i) (step s (MakeFailed i))
   make-failed i out =
       let h0 = h.gen in let h1 = h.most in let h2 = h.jobs in let h3 = h.asks in let h4 = h.pays in let h5 = h.gave in
       let z : one_some s.spare ≡ 0 = ap one_some none in
       let t = effect (MakeFailed i) s in
       let x = ask_or_give true t in let y = kept-le t in
       let n = length-without i s.running out in let c = payers-without i s.running out in let f = length-kept_to (min s.bar i) s.queue in
-      (g, o + 1, a, v, u, omega arith, decided-budget g (o + 1) a v u true t (record { gen = omega arith; most = omega arith; jobs = omega arith; asks = omega arith; pays = omega arith; gave = omega arith }))
+      (g, o + 1, a, v, u, omega arith, omega arith, omega arith, decided-budget g (o + 1) a v u true t (record { gen = omega arith; most = omega arith; jobs = omega arith; asks = omega arith; pays = omega arith; gave = omega arith }))
 
-  next-event : (e : Event) → is_awaited s e ≡ true → Next g o a v u (step s e)
+  next-event : (e : Event) → is_awaited s e ≡ true → Next g o a v u e (step s e)
   next-event (Took b) out =
       let h0 = h.gen in let h1 = h.most in let h2 = h.jobs in let h3 = h.asks in let h4 = h.pays in let h5 = h.gave in
       let z : one_some s.spare ≡ 0 = ap one_some none in
       let t = effect (Took b) s in
       let x = ask_or_give true t in let y = kept-le t in
       let w : one_if s.asking ≡ 1 = ap one_if out in
-      (g, o, a + 1, v, u + 1 - kept t, omega arith, decided-budget g o (a + 1) v (u + 1 - kept t) true t (record { gen = omega arith; most = omega arith; jobs = omega arith; asks = omega arith; pays = omega arith; gave = omega arith }))
+      (g, o, a + 1, v, u + 1 - kept t, omega arith, omega arith, omega arith, decided-budget g o (a + 1) v (u + 1 - kept t) true t (record { gen = omega arith; most = omega arith; jobs = omega arith; asks = omega arith; pays = omega arith; gave = omega arith }))
   next-event Empty out =
       let h0 = h.gen in let h1 = h.most in let h2 = h.jobs in let h3 = h.asks in let h4 = h.pays in let h5 = h.gave in
       let z : one_some s.spare ≡ 0 = ap one_some none in
       let t = effect Empty s in
       let y = kept-le t in
       let w : one_if s.asking ≡ 1 = ap one_if out in
-      (g, o, a + 1, v, u, omega arith, decided-budget g o (a + 1) v u false t (record { gen = omega arith; most = omega arith; jobs = omega arith; asks = omega arith; pays = omega arith; gave = omega arith }))
+      (g, o, a + 1, v, u, omega arith, omega arith, omega arith, decided-budget g o (a + 1) v u false t (record { gen = omega arith; most = omega arith; jobs = omega arith; asks = omega arith; pays = omega arith; gave = omega arith }))
   next-event TakeFault out =
       let h0 = h.gen in let h1 = h.most in let h2 = h.jobs in let h3 = h.asks in let h4 = h.pays in let h5 = h.gave in
       let z : one_some s.spare ≡ 0 = ap one_some none in
       let t = effect TakeFault s in
       let y = kept-le t in
       let w : one_if s.asking ≡ 1 = ap one_if out in
-      (g, o, a + 1, v, u, omega arith, decided-budget g o (a + 1) v u false t (record { gen = omega arith; most = omega arith; jobs = omega arith; asks = omega arith; pays = omega arith; gave = omega arith }))
+      (g, o, a + 1, v, u, omega arith, omega arith, omega arith, decided-budget g o (a + 1) v u false t (record { gen = omega arith; most = omega arith; jobs = omega arith; asks = omega arith; pays = omega arith; gave = omega arith }))
   next-event (Generated i c) out =
       let h0 = h.gen in let h1 = h.most in let h2 = h.jobs in let h3 = h.asks in let h4 = h.pays in let h5 = h.gave in
       let z : one_some s.spare ≡ 0 = ap one_some none in
       let t = effect (Generated i c) s in
       let x = ask_or_give true t in let y = kept-le t in
       let e = gen-one i s.gen out in let l = queued-length (ltb i s.bar) (record { cost = c; unit = i }) s.queue in
-      (g + 1, o, a, v, u, omega arith, decided-budget (g + 1) o a v u true t (record { gen = omega arith; most = omega arith; jobs = omega arith; asks = omega arith; pays = omega arith; gave = omega arith }))
+      (g + 1, o, a, v, u, omega arith, omega arith, omega arith, decided-budget (g + 1) o a v u true t (record { gen = omega arith; most = omega arith; jobs = omega arith; asks = omega arith; pays = omega arith; gave = omega arith }))
   next-event (GenFailed i) out = gen-failed i out
   next-event (Made i) out =
       let h0 = h.gen in let h1 = h.most in let h2 = h.jobs in let h3 = h.asks in let h4 = h.pays in let h5 = h.gave in
@@ -209,11 +209,11 @@ module _ (g o a v u : ℕ) (s : State) (none : s.spare ≡ None) (h : Budget g o
       let t = effect (Made i) s in
       let x = ask_or_give true t in let y = kept-le t in
       let n = length-without i s.running out in let c = payers-without i s.running out in
-      (g, o + 1, a, v, u, omega arith, decided-budget g (o + 1) a v u true t (record { gen = omega arith; most = omega arith; jobs = omega arith; asks = omega arith; pays = omega arith; gave = omega arith }))
+      (g, o + 1, a, v, u, omega arith, omega arith, omega arith, decided-budget g (o + 1) a v u true t (record { gen = omega arith; most = omega arith; jobs = omega arith; asks = omega arith; pays = omega arith; gave = omega arith }))
   next-event (MakeFailed i) out = make-failed i out
   next-event (Wanted i) out = by (is_gen i s.gen) refl out
     where
-      by : (t : Bool) → is_gen i s.gen ≡ t → (t || runs i s.running) ≡ true → Next g o a v u (decided true (wanted t i s))
+      by : (t : Bool) → is_gen i s.gen ≡ t → (t || runs i s.running) ≡ true → Next g o a v u (Wanted i) (decided true (wanted t i s))
       by true at out = gen-failed i at
       by false at out = make-failed i out
   next-event (Gave b) out =
@@ -222,60 +222,84 @@ module _ (g o a v u : ℕ) (s : State) (none : s.spare ≡ None) (h : Budget g o
       let t = effect (Gave b) s in
       let y = kept-le t in
       let l = length-bytes_without b s.giving out in
-      (g, o, a, v + 1, u, omega arith, decided-budget g o a (v + 1) u false t (record { gen = omega arith; most = omega arith; jobs = omega arith; asks = omega arith; pays = omega arith; gave = omega arith }))
+      (g, o, a, v + 1, u, omega arith, omega arith, omega arith, decided-budget g o a (v + 1) u false t (record { gen = omega arith; most = omega arith; jobs = omega arith; asks = omega arith; pays = omega arith; gave = omega arith }))
   next-event (GiveFault b) out =
       let h0 = h.gen in let h1 = h.most in let h2 = h.jobs in let h3 = h.asks in let h4 = h.pays in let h5 = h.gave in
       let z : one_some s.spare ≡ 0 = ap one_some none in
       let t = effect (GiveFault b) s in
       let y = kept-le t in
       let l = length-bytes_without b s.giving out in
-      (g, o, a, v + 1, u, omega arith, decided-budget g o a (v + 1) u false t (record { gen = omega arith; most = omega arith; jobs = omega arith; asks = omega arith; pays = omega arith; gave = omega arith }))
+      (g, o, a, v + 1, u, omega arith, omega arith, omega arith, decided-budget g o a (v + 1) u false t (record { gen = omega arith; most = omega arith; jobs = omega arith; asks = omega arith; pays = omega arith; gave = omega arith }))
 
--- the counts at the end of a run, as many as there were events
-pub record Counted (n : ℕ) (s : State) (events : ℕ) : Type 0 where
+-- the counts of a run with so many events of each kind
+pub record Counted (n : ℕ) (s : State) (units asks gives : ℕ) : Type 0 where
   pub g : ℕ
   pub o : ℕ
   pub a : ℕ
   pub v : ℕ
   pub u : ℕ
-  pub sum : g + o + a + v ≡ events
-  pub units : s.units ≡ n
+  pub of_units : g + o ≡ units
+  pub of_asks : a ≡ asks
+  pub of_gives : v ≡ gives
+  pub units_is : s.units ≡ n
   pub budget : Budget g o a v u s
 
-run_from-counted : (n count : ℕ) (s : State) (es : List Event) → LawfulFrom s es → s.spare ≡ None → Counted n s count → Counted n (run_from s es) (count + length es)
-run_from-counted n count s [] l none h = let e = h.sum in record { g = h.g; o = h.o; a = h.a; v = h.v; u = h.u; sum = omega arith; units = h.units; budget = h.budget }
-run_from-counted n count s (e ∷ es) l none h =
+same_counts : (n : ℕ) (s : State) (u a v u' a' v' : ℕ) → u' ≡ u → a' ≡ a → v' ≡ v → Counted n s u a v → Counted n s u' a' v'
+same_counts n s u a v u' a' v' eu ea ev h = let x = h.of_units in let y = h.of_asks in let z = h.of_gives in record { g = h.g; o = h.o; a = h.a; v = h.v; u = h.u; of_units = omega arith; of_asks = omega arith; of_gives = omega arith; units_is = h.units_is; budget = h.budget }
+
+run_from-counted : (n units asks gives : ℕ) (s : State) (es : List Event) → LawfulFrom s es → s.spare ≡ None → Counted n s units asks gives → Counted n (run_from s es) (units + total of_unit es) (asks + total of_ask es) (gives + total of_give es)
+run_from-counted n units asks gives s [] l none h = same_counts n s units asks gives _ _ _ (omega arith) (omega arith) (omega arith) h
+run_from-counted n units asks gives s (e ∷ es) l none h =
     let t = next-event h.g h.o h.a h.v h.u s none h.budget e l.0 in
     let d = (acted (may_ask e) (effect e s)).units in
-    let x = t.5 in let y = h.sum in
-    let r = run_from-counted n (count + 1) (step s e) es l.1 (decided-spare (may_ask e) (effect e s)) (record { g = t.0; o = t.1; a = t.2; v = t.3; u = t.4; sum = omega arith; units = d ∙ (effect-next e s).1 ∙ h.units; budget = t.6 }) in
-    let z = r.sum in
-    record { g = r.g; o = r.o; a = r.a; v = r.v; u = r.u; sum = omega arith; units = r.units; budget = r.budget }
+    let x = h.of_units in let y = h.of_asks in let z = h.of_gives in
+    let t5 = t.5 in let t6 = t.6 in let t7 = t.7 in
+    let r = run_from-counted n (units + of_unit e) (asks + of_ask e) (gives + of_give e) (step s e) es l.1 (decided-spare (may_ask e) (effect e s)) (record { g = t.0; o = t.1; a = t.2; v = t.3; u = t.4; of_units = omega arith; of_asks = omega arith; of_gives = omega arith; units_is = d ∙ (effect-next e s).1 ∙ h.units_is; budget = t.8 }) in
+    same_counts n (run_from (step s e) es) (units + of_unit e + total of_unit es) (asks + of_ask e + total of_ask es) (gives + of_give e + total of_give es) _ _ _ (omega arith) (omega arith) (omega arith) r
 
 first-ask : (n lanes : ℕ) → one_if (asks_now (main (settled (first n lanes)))) ≡ 0
 first-ask n lanes = ap one_if (main-asks (first n lanes) (is_free (first n lanes)) (is_short (first n lanes)) refl refl (inl refl))
 
-pub counted : (n lanes : ℕ) (es : List Event) → Lawful n lanes es → Counted n (run n lanes es) (length es)
+pub counted : (n lanes : ℕ) (es : List Event) → Lawful n lanes es → Counted n (run n lanes es) (total of_unit es) (total of_ask es) (total of_give es)
 counted n lanes es l =
     let a = first-ask n lanes in
     let b : Budget 0 0 0 0 0 (opened n lanes) = decided-budget 0 0 0 0 0 true (first n lanes) (record { gen = refl; most = omega arith; jobs = omega arith; asks = omega arith; pays = omega arith; gave = omega arith }) in
     let u = (acted true (first n lanes)).units in
-    let r = run_from-counted n 0 (opened n lanes) es l (decided-spare true (first n lanes)) (record { g = 0; o = 0; a = 0; v = 0; u = 0; sum = refl; units = u; budget = b }) in
-    let z = r.sum in
-    record { g = r.g; o = r.o; a = r.a; v = r.v; u = r.u; sum = omega arith; units = r.units; budget = r.budget }
+    let r = run_from-counted n 0 0 0 (opened n lanes) es l (decided-spare true (first n lanes)) (record { g = 0; o = 0; a = 0; v = 0; u = 0; of_units = refl; of_asks = refl; of_gives = refl; units_is = u; budget = b }) in
+    same_counts n (run n lanes es) (0 + total of_unit es) (0 + total of_ask es) (0 + total of_give es) _ _ _ (omega arith) (omega arith) (omega arith) r
 
-pub room : (n lanes : ℕ) (es : List Event) → Lawful n lanes es → length es ≤ 8 * n
-room n lanes es l =
+-- each event is of one kind
+kinds : (es : List Event) → length es ≡ total of_unit es + total of_ask es + total of_give es
+kinds [] = refl
+kinds (e ∷ es) = let r = kinds es in let k = kind e in omega arith
+  where
+    kind : (e : Event) → of_unit e + of_ask e + of_give e ≡ 1
+    kind (Took b) = refl
+    kind Empty = refl
+    kind TakeFault = refl
+    kind (Generated i c) = refl
+    kind (GenFailed i) = refl
+    kind (Made i) = refl
+    kind (MakeFailed i) = refl
+    kind (Wanted i) = refl
+    kind (Gave b) = refl
+    kind (GiveFault b) = refl
+
+pub few : (n lanes : ℕ) (es : List Event) → Lawful n lanes es → Few n es
+few n lanes es l =
     let c = counted n lanes es l in
     let b = c.budget in
-    let e = c.sum in let w = c.units in
+    let x = c.of_units in let y = c.of_asks in let z = c.of_gives in let w = c.units_is in
     let h0 = b.gen in let h1 = b.most in let h2 = b.jobs in let h3 = b.asks in let h4 = b.pays in let h5 = b.gave in
-    let p = length-jobs (run n lanes es).running in omega arith
+    let p = length-jobs (run n lanes es).running in record { units = omega arith; asks = omega arith; gives = omega arith }
+
+pub room : (n lanes : ℕ) (es : List Event) → Lawful n lanes es → length es ≤ 8 * n
+room n lanes es l = let f = few n lanes es l in let k = kinds es in let a = f.units in let b = f.asks in let c = f.gives in omega arith
 
 pub fits : (n lanes : ℕ) (es : List Event) → Lawful n lanes es → Fits n (run n lanes es)
 fits n lanes es l =
     let c = counted n lanes es l in
     let b = c.budget in
-    let w = c.units in
+    let w = c.units_is in
     let h0 = b.gen in let h1 = b.most in let h2 = b.jobs in let h3 = b.asks in let h4 = b.pays in let h5 = b.gave in
     let p = length-jobs (run n lanes es).running in record { queue = omega arith; giving = omega arith }

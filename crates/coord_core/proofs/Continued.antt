@@ -1,12 +1,11 @@
 -- A lawful run that goes on by one awaited event.
-use Rattle.std.proofs.Common.{◌≡◌, ℕ, ◌+◌, ◌*◌, ◌<◌, ◌≤◌, true, List, [], ◌∷◌, ◌++◌, length, length-append, sym, refl, ap, ◌∙◌, subst, arith}
+use Rattle.std.proofs.Common.{◌≡◌, ℕ, ◌*◌, ◌<◌, ◌≤◌, true, List, [], ◌∷◌, ◌++◌, length, length-append, sym, refl, ap, ◌∙◌, subst, arith}
 use Rattle.coord_core.specs.declared.event.Event.{Event}
 use Rattle.coord_core.specs.State.{State, one_some}
 use Rattle.coord_core.specs.Effect.{effect}
-use Rattle.coord_core.specs.Decide.{may_ask, decided, actions_of}
-use Rattle.coord_core.specs.Run.{first, opened, step, run_from, run, is_awaited, LawfulFrom, Lawful}
-use Rattle.coord_core.specs.Journal.{jobs_by}
-use Rattle.coord_core.specs.Laws.{Bounded, Fits, Acted, gen_or}
+use Rattle.coord_core.specs.Decide.{may_ask, actions_of}
+use Rattle.coord_core.specs.Run.{opened, step, run_from, run, is_awaited, LawfulFrom, Lawful}
+use Rattle.coord_core.specs.Laws.{Bounded, Fits, GoesOn, gen_or}
 use Rattle.coord_core.specs.Core.{IsCore}
 use Rattle.coord_core.proofs.Acted.{acted}
 use Rattle.coord_core.proofs.Sound.{bounded_by, effect-sound, run-sound, run-spare}
@@ -28,6 +27,9 @@ run-snoc n lanes es e = run_from-snoc (opened n lanes) es e
 module _ (n lanes : ℕ) (es : List Event) (e : Event) (l : Lawful n lanes es) (out : is_awaited (run n lanes es) e ≡ true) where
   pub lawful-snoc : Lawful n lanes (es ++ e ∷ [])
   lawful-snoc = lawful_from-snoc (opened n lanes) es e l out
+
+  pub goes_on : GoesOn n lanes es e
+  goes_on = record { lawful = lawful-snoc; run = run-snoc n lanes es e }
 
   pub bounded-told : 0 < lanes → Bounded (effect e (run n lanes es)).lanes (effect e (run n lanes es))
   bounded-told some =

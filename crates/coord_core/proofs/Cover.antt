@@ -179,6 +179,10 @@ complete n lanes es l end =
     let rest : (s.queue ≡ []) × (may_generate s ≡ false) = ⊎_elim (λ (z : is_free s ≡ false). absurd (cc)) (λ (z : (s.queue ≡ []) × (may_generate s ≡ false)). z) r.1 in
     let u = (run-held n lanes es l).units in
     record {
+      running = done.running;
+      gen = done.gen;
+      asking = done.asking;
+      giving = done.giving;
       queue = rest.0;
       rest = rest.1;
       made = λ i low.

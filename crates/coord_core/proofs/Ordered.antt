@@ -149,7 +149,7 @@ main-ordered s true false h = (lends-keeps s s.queue refl).0 h
 
 main-short : (s : State) (f g : Bool) → is_free s ≡ f → is_short s ≡ g → length s.running ≤ 64 → Short s → Short (main_by s f g)
 main-short s false g ef eg most h = h
-main-short s true true ef eg most h = let b = few (length s.queue) (length s.running) most (not-true _ ((and_parts _ _ eg).1)) in omega arith
+main-short s true true ef eg most h = let b : length s.queue ≤ 15 = few (length s.queue) (length s.running) most (not-true _ ((and_parts _ _ eg).1)) in omega arith
 main-short s true false ef eg most h = let k = (lends-keeps s s.queue refl).1 in omega arith
 
 decided-ordered : (may : Bool) (s : State) → IsOrdered s.queue → IsOrdered (decided may s).queue

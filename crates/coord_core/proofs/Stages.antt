@@ -1,5 +1,5 @@
 -- The jobs have room at each decision.
-use Rattle.std.proofs.Common.{◌≡◌, ℕ, ◌+◌, ◌<◌, ◌≤◌, true, length, refl, arith}
+use Rattle.std.proofs.Common.{◌≡◌, ◌+◌, ◌<◌, ◌≤◌, true, length, refl, arith}
 use Rattle.coord_core.specs.State.{State, one_some, own_of}
 use Rattle.coord_core.specs.Decide.{pass, wants, settled, is_free}
 use Rattle.coord_core.specs.Laws.{Bounded}

@@ -1,7 +1,7 @@
 -- Worked runs of the definition, computed: two lanes and one token, and two failures of which the lesser comes last.
-use Rattle.std.proofs.Common.{◌≡◌, ℕ, true, false, List, [], ◌∷◌, Option, Some, None, refl}
+use Rattle.std.proofs.Common.{◌≡◌, ℕ, true, false, List, [], ◌∷◌, Some, None, refl}
 use Rattle.coord_core.specs.declared.event.Event.{Event}
-use Rattle.coord_core.specs.declared.event.Event.TheVariants.{Took, Empty, TakeFault, Generated, GenFailed, Made, MakeFailed, Wanted, Gave, GiveFault}
+use Rattle.coord_core.specs.declared.event.Event.TheVariants.{Took, Generated, GenFailed, Made, MakeFailed, Gave}
 use Rattle.coord_core.specs.declared.event.Main.{Main}
 use Rattle.coord_core.specs.declared.event.Main.TheVariants.{Idle, Generate, Lend}
 use Rattle.coord_core.specs.declared.event.Actions.{Actions}

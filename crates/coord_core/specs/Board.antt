@@ -1,8 +1,7 @@
 -- How the code's fields show the state.
-use Rattle.std.specs.Prelude.{◌≡◌, ℕ, ◌+◌, ◌*◌, ◌<◌, ◌≤◌, Bool, true, List, [], ◌∷◌, length, Option, Some, None, vec_capacity, vec_len}
+use Rattle.std.specs.Prelude.{◌*◌, ◌≤◌, vec_capacity}
 use Rattle.coord_core.specs.declared.board.Board.{Board}
-use Rattle.coord_core.specs.declared.queue.Queued.{Queued}
-use Rattle.coord_core.specs.State.{State, one_some}
+use Rattle.coord_core.specs.State.{State}
 
 -- the state that the fields hold
 abbrev pub state_of : Board → State

@@ -1,7 +1,7 @@
 -- What a list of events and a list of answers tell.
 use Rattle.std.specs.Prelude.{ℕ, min, zero, suc, List, [], ◌∷◌, ◌++◌, Option, Some, None}
 use Rattle.coord_core.specs.declared.event.Event.{Event}
-use Rattle.coord_core.specs.declared.event.Event.TheVariants.{Took, GenFailed, Made, MakeFailed, Wanted, Gave, GiveFault}
+use Rattle.coord_core.specs.declared.event.Event.TheVariants.{Took, Empty, TakeFault, Generated, GenFailed, Made, MakeFailed, Wanted, Gave, GiveFault}
 use Rattle.coord_core.specs.declared.event.Main.{Main}
 use Rattle.coord_core.specs.declared.event.Main.TheVariants.{Generate, Lend}
 use Rattle.coord_core.specs.declared.event.Actions.{Actions}
@@ -37,6 +37,28 @@ failed_by (GenFailed i) = i ∷ []
 failed_by (MakeFailed i) = i ∷ []
 failed_by (Wanted i) = i ∷ []
 failed_by _ = []
+
+-- 1 for an event of a unit: what came of its generation or its job
+abbrev pub of_unit : Event → ℕ
+of_unit (Generated i c) = 1
+of_unit (GenFailed i) = 1
+of_unit (Made i) = 1
+of_unit (MakeFailed i) = 1
+of_unit (Wanted i) = 1
+of_unit _ = 0
+
+-- 1 for an answer to an ask
+abbrev pub of_ask : Event → ℕ
+of_ask (Took b) = 1
+of_ask Empty = 1
+of_ask TakeFault = 1
+of_ask _ = 0
+
+-- 1 for an answer to a give
+abbrev pub of_give : Event → ℕ
+of_give (Gave b) = 1
+of_give (GiveFault b) = 1
+of_give _ = 0
 
 -- the unit whose generation is begun
 abbrev pub begun_by : Main → List ℕ

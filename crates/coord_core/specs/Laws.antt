@@ -1,6 +1,6 @@
 -- What holds of every lawful run.
-use Rattle.std.specs.Prelude.{◌≡◌, ℕ, ◌+◌, ◌<◌, ◌≤◌, Bool, false, ◌||◌, List, [], ◌∷◌, ◌++◌, length, Option, Some, None, option_to_list, unwrap_or, if◌then◌else◌}
-use Rattle.counting.specs.Count.{one_if, times}
+use Rattle.std.specs.Prelude.{◌≡◌, ℕ, ◌+◌, ◌*◌, ◌<◌, ◌≤◌, Bool, false, ◌||◌, List, [], ◌∷◌, ◌++◌, length, Option, Some, None, option_to_list, unwrap_or, if◌then◌else◌}
+use Rattle.counting.specs.Count.{one_if, times, total}
 use Rattle.coord_core.specs.declared.event.Event.{Event}
 use Rattle.coord_core.specs.declared.event.Event.TheVariants.{Took, Empty, TakeFault, Generated, GenFailed, Made, MakeFailed, Wanted}
 use Rattle.coord_core.specs.declared.event.Main.{Main}
@@ -9,8 +9,8 @@ use Rattle.coord_core.specs.declared.event.Actions.{Actions}
 use Rattle.coord_core.specs.declared.queue.Queued.{Queued}
 use Rattle.coord_core.specs.State.{State, one_some, owns, payers, queued_at, running_at, in_hand, bytes_in, byte_at, is_gen, precedes}
 use Rattle.coord_core.specs.Decide.{may_generate}
-use Rattle.coord_core.specs.Run.{run, answers}
-use Rattle.coord_core.specs.Journal.{took_by, gave_by, lost_by, begun_by, jobs_by, made, failed, begun, jobs, up_to, least}
+use Rattle.coord_core.specs.Run.{run, step, answers, Lawful}
+use Rattle.coord_core.specs.Journal.{took_by, gave_by, lost_by, begun_by, jobs_by, made, failed, begun, jobs, up_to, least, of_unit, of_ask, of_give}
 
 -- at most one job or generation is on the implicit slot; the jobs and the generation are at most one more than the bytes that pay; the bytes that pay or are spare and an ask that is out leave a lane for the slot
 pub record Bounded (lanes : ℕ) (s : State) : Type 0 where
@@ -18,8 +18,12 @@ pub record Bounded (lanes : ℕ) (s : State) : Type 0 where
   pub out : length s.running + one_some s.gen ≤ payers s.running + 1
   pub held : payers s.running + one_some s.spare + one_if s.asking + 1 ≤ lanes
 
--- nothing is left to do, and each unit below the bar was made
+-- nothing is out and nothing is left to do, and each unit below the bar was made
 pub record Complete (s : State) (events : List Event) : Type 0 where
+  pub running : s.running ≡ []
+  pub gen : s.gen ≡ None
+  pub asking : s.asking ≡ false
+  pub giving : s.giving ≡ []
   pub queue : s.queue ≡ []
   pub rest : may_generate s ≡ false
   pub made : (i : ℕ) → i < s.bar → 1 ≤ times i (made events)
@@ -45,6 +49,17 @@ pub record InHand (n : ℕ) (s : State) : Type 0 where
   pub once : (x : ℕ) → in_hand x s ≤ 1
   pub below : (x : ℕ) → 1 ≤ in_hand x s → x < s.next
   pub most : s.next ≤ n
+
+-- a lawful run goes on by the event
+pub record GoesOn (n lanes : ℕ) (events : List Event) (e : Event) : Type 0 where
+  pub lawful : Lawful n lanes (events ++ e ∷ [])
+  pub run : run n lanes (events ++ e ∷ []) ≡ step (run n lanes events) e
+
+-- how many events there are of units, of asks and of gives
+pub record Few (n : ℕ) (events : List Event) : Type 0 where
+  pub units : total of_unit events ≤ 2 * n
+  pub asks : total of_ask events ≤ 3 * n
+  pub gives : total of_give events ≤ 3 * n
 
 -- how long the lists can get
 pub record Fits (n : ℕ) (s : State) : Type 0 where

@@ -10,7 +10,7 @@ ghost use Rattle.coord_core.specs.Effect.{effect};
 ghost use Rattle.coord_core.specs.Decide.{decided, actions_of};
 ghost use Rattle.coord_core.specs.Run.{run, answers_from, is_awaited, Lawful, is_finished};
 ghost use Rattle.coord_core.specs.Journal.{failed_by, took, gave, lost, begun, least};
-ghost use Rattle.coord_core.specs.Laws.{Bounded, Complete, Barred, IsLeast, InOrder, InHand, Fits, Acted, Told, IsOrdered};
+ghost use Rattle.coord_core.specs.Laws.{Bounded, Complete, Barred, IsLeast, InOrder, InHand, GoesOn, Few, Fits, Acted, Told, IsOrdered};
 
 /// The tokens bound the jobs: after every event, and between an event and what is decided on it.
 /// After the decisions no token is spare.
@@ -48,9 +48,11 @@ pub fn bag()
     ensures returned { (n lanes : ℕ) (events : List Event) → Lawful n lanes events → is_finished (run n lanes events) ≡ true → (x : ℕ) → times x (took events) ≡ times x (gave events) + times x (lost events) }
 {}
 
-/// There are at most eight events a unit, and the lists of the state have room.
+/// There are at most eight events a unit, two of it and three each of asks and gives, and the lists of
+/// the state have room.
 pub fn room()
     ensures events { (n lanes : ℕ) (events : List Event) → Lawful n lanes events → length events ≤ 8 * n }
+    ensures kinds { (n lanes : ℕ) (events : List Event) → Lawful n lanes events → Few n events }
     ensures lists { (n lanes : ℕ) (events : List Event) → Lawful n lanes events → Fits n (run n lanes events) }
 {}
 
@@ -69,4 +71,9 @@ pub fn hand()
 pub fn change()
     ensures told { (e : Event) (s : State) → is_awaited s e ≡ true → s.spare ≡ None → Told e s (effect e s) }
     ensures acted { (may : Bool) (s : State) → Acted s (decided may s) (actions_of may s) }
+{}
+
+/// A lawful run goes on by any awaited event, one step further.
+pub fn goes_on()
+    ensures { (n lanes : ℕ) (events : List Event) (e : Event) → Lawful n lanes events → is_awaited (run n lanes events) e ≡ true → GoesOn n lanes events e }
 {}

@@ -1,4 +1,4 @@
-use Rattle.std.proofs.Common.{◌≡◌, ◌==◌, ℕ, List, remove, position, Option, Some, None, sym, ap, ◌∙◌}
+use Rattle.std.proofs.Common.{◌==◌, ℕ, List, remove, position, sym, ap, ◌∙◌}
 use Rattle.coord_core.proofs.Places.{place_some, place_none, bytes_without-remove, bytes_without-none}
 use Rattle.coord_core.proofs.giving.take_byte.Goals as goal
 

@@ -1,4 +1,4 @@
-use Rattle.std.proofs.Common.{◌≡◌, ◌==◌, ℕ, List, remove, get_or, position, Option, Some, None, sym, ap, ◌∙◌}
+use Rattle.std.proofs.Common.{◌==◌, ℕ, List, remove, get_or, position, sym, ap, ◌∙◌}
 use Rattle.coord_core.specs.declared.job.Job.{Job}
 use Rattle.coord_core.proofs.Places.{place_some, place_none, jobs_without-remove, jobs_without-none}
 use Rattle.coord_core.proofs.job.end_job.Goals as goal

@@ -1,4 +1,4 @@
-use Rattle.std.proofs.Common.{◌≡◌, ℕ, List, set, get_or, position, Option, Some, None, sym, ap, ◌∙◌, is_none}
+use Rattle.std.proofs.Common.{ℕ, List, set, get_or, position, Some, sym, ap, ◌∙◌, is_none}
 use Rattle.coord_core.specs.declared.job.Job.{Job}
 use Rattle.coord_core.proofs.Places.{place_some, place_none, paid_by-set, paid_by-none}
 use Rattle.coord_core.proofs.job.pay_own.Goals as goal

@@ -1,4 +1,4 @@
-use Rattle.std.proofs.Common.{◌≡◌, ℕ, Bool, true, cond, List, length, position, insert, unwrap_or, is_ok, Option, sym, ap, ◌∙◌}
+use Rattle.std.proofs.Common.{◌≡◌, ℕ, Bool, cond, List, length, position, insert, unwrap_or, Option, sym, ap, ◌∙◌}
 use Rattle.coord_core.specs.declared.queue.Queued.{Queued}
 use Rattle.coord_core.specs.State.{precedes}
 use Rattle.coord_core.proofs.Places.{place_or_end, placed-insert}

@@ -1,4 +1,4 @@
-use Rattle.std.proofs.Common.{◌≡◌, ℕ, ◌<◌, nat_lt, Some, None, cond, Option, List, sym, ap, ◌∙◌}
+use Rattle.std.proofs.Common.{nat_lt, Some, None, cond, sym, ap, ◌∙◌}
 use Rattle.coord_core.specs.State.{State}
 use Rattle.coord_core.specs.Journal.{least, failed}
 use Rattle.coord_core.specs.Core.{CoreState}

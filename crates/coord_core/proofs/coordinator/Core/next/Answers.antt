@@ -1,4 +1,4 @@
-use Rattle.std.proofs.Common.{◌≡◌, ◌+◌, ◌<◌, ◌≤◌, ℕ, true, Bool, List, [], ◌∷◌, ◌++◌, length, vec_len, vec_capacity, sym, ap, ◌∙◌, subst, arith}
+use Rattle.std.proofs.Common.{◌≡◌, ℕ, true, Bool, List, vec_capacity, sym, ap, ◌∙◌, subst, arith}
 use Rattle.coord_core.specs.declared.event.Event.{Event}
 use Rattle.coord_core.specs.State.{State}
 use Rattle.coord_core.specs.Effect.{effect}
