@@ -1,8 +1,22 @@
 //! The coordinator: a run's events in, what is to be done out.
+//!
+//! A unit is generated on the caller's thread, one at a time and in unit order, then waits in the queue,
+//! and is made by a job. One job or generation at a time has the implicit slot, which the process has
+//! for nothing; every other job is paid by a token. After each event five decisions are made in order:
+//! a spare token *passes* to the job on the slot, if that frees the slot for more work; else it *starts*
+//! the head of the queue; else it is *given* back. Then the free slot generates the next unit while too
+//! little waits, or runs the head of the queue; and last a token is *asked* for, if it would have work
+//! and a lane is left for it.
+//!
+//! The least unit that failed is the bar. From the first failure on nothing is generated, and what waits
+//! above the bar is dropped; what is below it is still made, so that the failure that is named at the
+//! end does not hang on the order of the answers. docs/coordinator.md has the whole story, with a run.
+//!
+//! `board` holds the state and a function for each decision, `queue`, `job` and `giving` its lists.
 ghost use Rattle.std.specs.Prelude.{◌≡◌, ◌<◌, ◌≤◌, [], true, IfOk};
 ghost use Rattle.coord_core.specs.Effect.{effect};
 ghost use Rattle.coord_core.specs.Decide.{may_ask, actions_of};
-ghost use Rattle.coord_core.specs.Run.{first, is_awaited, is_finished};
+ghost use Rattle.coord_core.specs.Run.{first, is_awaited, is_finished, Lawful};
 ghost use Rattle.coord_core.specs.Journal.{failed, least};
 
 use crate::board::Board;
@@ -72,9 +86,10 @@ impl Core {
         self.board.is_finished()
     }
 
-    /// The events that it was told, in order.
+    /// The events that it was told, in order: a lawful run.
     pub fn journal(&self) -> &[Event]
-        ensures { result.now ≡ self.now.journal }
+        ensures events { result.now ≡ self.now.journal }
+        ensures lawful { Lawful self.now.n self.now.lanes self.now.journal }
     {
         &self.journal
     }
