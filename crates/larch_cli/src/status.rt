@@ -1,7 +1,9 @@
 ghost use Rattle.std.specs.Prelude.{◌≡◌, IfOk, string_bytes};
-ghost use Rattle.larch_cli.specs.Status.{line_of, number_of};
+ghost use Rattle.larch_cli.specs.Status.{kind_word, line_of, number_of};
 
 use lar_tree::Text;
+use object_format::BadFile;
+use stack_vm::Kind;
 use std::alloc::{AllocError, Global};
 
 /// How a command ended.
@@ -19,8 +21,25 @@ pub enum Status {
     SinkFault,
     /// There was no memory.
     Memory,
+    /// The file with this name is no valid image, by this first fault.
+    BadFile(Text, BadFile),
+    /// The run trapped for this reason, in this function at this offset of its code.
+    Trapped(Kind, u32, u32),
+    /// The run did not end within its steps.
+    OutOfSteps,
     /// The sources are none that can be built so far.
     Unsupported,
+}
+
+fn kind_word(kind: Kind) -> &'static str
+    ensures { result.now ≡ kind_word kind }
+{
+    match kind {
+        Kind::Division => "division",
+        Kind::Overflow => "overflow",
+        Kind::Depth => "depth",
+        Kind::Trap => "trap",
+    }
 }
 
 impl Status {
@@ -35,6 +54,9 @@ impl Status {
             Status::FileFault(_) => 4,
             Status::SinkFault => 6,
             Status::Memory => 8,
+            Status::BadFile(_, _) => 9,
+            Status::Trapped(_, _, _) => 11,
+            Status::OutOfSteps => 12,
             Status::Unsupported => 13,
         }
     }
@@ -56,6 +78,17 @@ impl Status {
                 format!(in alloc; "larchc: {name}: file fault\n")
             }
             Status::Memory => format!(in alloc; "larchc: out of memory\n"),
+            Status::BadFile(name, fault) => {
+                let name = name.as_str();
+                let at = fault.at;
+                let what = fault.what.word();
+                format!(in alloc; "larchc: {name}: bad file at {at}: {what}\n")
+            }
+            Status::Trapped(kind, function, offset) => {
+                let kind = kind_word(*kind);
+                format!(in alloc; "larchc: trap {kind} at {function}:{offset}\n")
+            }
+            Status::OutOfSteps => format!(in alloc; "larchc: out of steps\n"),
             Status::Unsupported => format!(in alloc; "larchc: unsupported input\n"),
         }
     }
