@@ -16,7 +16,7 @@ use Rattle.std.specs.Int.{w32, from_be_bytes}
 use Rattle.std.specs.List.{flat_map, AllByRecursion}
 use Rattle.std.proofs.lemmas.List.{append-nil}
 use Rattle.object_format.specs.Opcode.{row}
-use Rattle.object_format.specs.Code.{Instruction, IsInstruction, IsLinkedInstruction, CallIsBelow, bytes_of, IsMadeOf, IsWhole, IsLinkedCode}
+use Rattle.object_format.specs.Code.{Instruction, IsInstruction, IsLinkedInstruction, bytes_of, IsMadeOf, IsWhole, IsLinkedCode}
 use Rattle.object_format.specs.declared.opcode.Opcode.{Opcode}
 use Rattle.object_format.specs.declared.opcode.Opcode.TheVariants.{Call}
 

@@ -1,5 +1,5 @@
 -- The table of opcodes. Codec, validator, machine and listing all cite it.
-use Rattle.std.specs.Prelude.{ℕ, ◌-◌, ◌==◌, if◌then◌else◌, List, [], ◌∷◌, Option, Some, None, slice_get, option_map}
+use Rattle.std.specs.Prelude.{ℕ, zero, suc, List, [], ◌∷◌, Option, None, slice_get}
 use Rattle.object_format.specs.declared.opcode.Opcode.{Opcode}
 use Rattle.object_format.specs.declared.opcode.Opcode.TheVariants.{Push8, Push64, Load, Store, Pop, Add, Sub, Mul, Div, Rem, Neg, Equal, NotEqual, Less, AtMost, Greater, AtLeast, Not, Jump, JumpZero, Call, Return, Print, Trap, Dup, Nop}
 
@@ -45,4 +45,5 @@ opcodes = Push8 ∷ Push64 ∷ Load ∷ Store ∷ Pop ∷ Add ∷ Sub ∷ Mul �
 
 -- the opcode that a byte is
 abbrev pub opcode_of : ℕ → Option Opcode
-opcode_of byte = if byte == 0 then None else slice_get opcodes (byte - 1)
+opcode_of zero = None
+opcode_of (suc n) = slice_get opcodes n

@@ -1,5 +1,8 @@
 //! The opcodes of the stack machine.
 
+ghost use Rattle.std.specs.Prelude.{◌≡◌};
+ghost use Rattle.object_format.specs.Opcode.{row, opcode_of};
+
 /// What an instruction does, in the order of the bytes that stand for it, from 1.
 #[derive(Clone, Copy, Debug, PartialEq, Eq)]
 pub enum Opcode {
@@ -43,4 +46,87 @@ pub enum Opcode {
     Dup,
     /// Does nothing.
     Nop,
+}
+
+impl Opcode {
+    /// The opcode that a byte stands for.
+    pub fn of(byte: u8) -> Option<Opcode>
+        ensures { result ≡ opcode_of byte }
+    {
+        match byte {
+            0x01 => Some(Opcode::Push8),
+            0x02 => Some(Opcode::Push64),
+            0x03 => Some(Opcode::Load),
+            0x04 => Some(Opcode::Store),
+            0x05 => Some(Opcode::Pop),
+            0x06 => Some(Opcode::Add),
+            0x07 => Some(Opcode::Sub),
+            0x08 => Some(Opcode::Mul),
+            0x09 => Some(Opcode::Div),
+            0x0a => Some(Opcode::Rem),
+            0x0b => Some(Opcode::Neg),
+            0x0c => Some(Opcode::Equal),
+            0x0d => Some(Opcode::NotEqual),
+            0x0e => Some(Opcode::Less),
+            0x0f => Some(Opcode::AtMost),
+            0x10 => Some(Opcode::Greater),
+            0x11 => Some(Opcode::AtLeast),
+            0x12 => Some(Opcode::Not),
+            0x13 => Some(Opcode::Jump),
+            0x14 => Some(Opcode::JumpZero),
+            0x15 => Some(Opcode::Call),
+            0x16 => Some(Opcode::Return),
+            0x17 => Some(Opcode::Print),
+            0x18 => Some(Opcode::Trap),
+            0x19 => Some(Opcode::Dup),
+            0x1a => Some(Opcode::Nop),
+            _ => None,
+        }
+    }
+
+    /// The byte that stands for it.
+    pub fn number(self) -> u8
+        ensures { result ≡ (row self).number }
+    {
+        match self {
+            Opcode::Push8 => 0x01,
+            Opcode::Push64 => 0x02,
+            Opcode::Load => 0x03,
+            Opcode::Store => 0x04,
+            Opcode::Pop => 0x05,
+            Opcode::Add => 0x06,
+            Opcode::Sub => 0x07,
+            Opcode::Mul => 0x08,
+            Opcode::Div => 0x09,
+            Opcode::Rem => 0x0a,
+            Opcode::Neg => 0x0b,
+            Opcode::Equal => 0x0c,
+            Opcode::NotEqual => 0x0d,
+            Opcode::Less => 0x0e,
+            Opcode::AtMost => 0x0f,
+            Opcode::Greater => 0x10,
+            Opcode::AtLeast => 0x11,
+            Opcode::Not => 0x12,
+            Opcode::Jump => 0x13,
+            Opcode::JumpZero => 0x14,
+            Opcode::Call => 0x15,
+            Opcode::Return => 0x16,
+            Opcode::Print => 0x17,
+            Opcode::Trap => 0x18,
+            Opcode::Dup => 0x19,
+            Opcode::Nop => 0x1a,
+        }
+    }
+
+    /// How many bytes of operand stand behind it.
+    pub fn operand_len(self) -> usize
+        ensures { result ≡ (row self).operand }
+    {
+        match self {
+            Opcode::Push8 | Opcode::Load | Opcode::Store => 1,
+            Opcode::Push64 => 8,
+            Opcode::Jump | Opcode::JumpZero | Opcode::Call => 4,
+            _ => 0,
+        }
+    }
 }
