@@ -46,7 +46,7 @@ code_fault-next count at offset end code all h ends so_far =
 
 -- ---- code without a fault is linked code
 
-or_later-none : (a b : Option BadFile) → or_later a b ≡ None → (a ≡ None) × (b ≡ None)
+pub or_later-none : (a b : Option BadFile) → or_later a b ≡ None → (a ≡ None) × (b ≡ None)
 or_later-none (Some f) b e = absurd cc
 or_later-none None b e = (refl, e)
 
@@ -65,7 +65,7 @@ call_below count at n e =
       | inr is_not ↦ absurd (let bad = rw is_not at e in cc)
     ]
 
-fine_parts : (count at n m : ℕ) (b : Bool) (long : Bool) (f : BadFile) → cond long (Some f) (call_fault count at b m) ≡ None → (long ≡ false) × (call_fault count at b m ≡ None)
+pub fine_parts : (count at n m : ℕ) (b : Bool) (long : Bool) (f : BadFile) → cond long (Some f) (call_fault count at b m) ≡ None → (long ≡ false) × (call_fault count at b m ≡ None)
 fine_parts count at n m b true f e = absurd cc
 fine_parts count at n m b false f e = (refl, e)
 

@@ -1,0 +1,6 @@
+pub mod Crossed
+pub mod FirstFault
+pub mod Listing
+pub mod Measuring
+pub mod Offsets
+pub mod Showing
