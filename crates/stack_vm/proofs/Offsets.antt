@@ -1,7 +1,8 @@
 -- Where the instructions of code stand: below its length, and not more of them than bytes.
-use Rattle.std.proofs.Common.{◌≡◌, ℕ, zero, suc, ◌+◌, ◌-◌, ◌^◌, ◌<◌, ◌≤◌, List, [], ◌∷◌, ◌++◌, length, replicate, Option, Some, None, Bool, true, false, ltb, eqb, cond, refl, sym, ap, ◌∙◌, arith, subst, slice_get}
+use Rattle.std.proofs.Common.{◌≡◌, ℕ, zero, suc, ◌+◌, ◌-◌, ◌^◌, ◌<◌, ◌≤◌, List, [], ◌∷◌, ◌++◌, length, replicate, Option, Some, None, Bool, true, false, ltb, eqb, cond, refl, sym, ap, ◌∙◌, arith, subst, slice_get, get_or}
 use Rattle.std.specs.List.{AllByRecursion}
 use Rattle.std.proofs.lemmas.Bool.{ne_eqb, cases_lt}
+use Rattle.std.proofs.lemmas.Option.{slice_get-get_or}
 use Rattle.std.proofs.lemmas.List.{length-append, get_or-replicate, length-replicate}
 use Rattle.object_format.specs.Image.{LinkedFn}
 use Rattle.object_format.specs.Opcode.{row, opcode_of}
@@ -16,7 +17,7 @@ all-append : (P : Placed → Type 0) (xs ys : List Placed) → AllByRecursion P 
 all-append P [] ys p q = q
 all-append P (x ∷ xs) ys p q = (p.0, all-append P xs ys p.1 q)
 
-pub all_get : (P : Placed → Type 0) (xs : List Placed) (k : ℕ) (x : Placed) → AllByRecursion P xs → slice_get xs k ≡ Some x → P x
+pub all_get : {X : Type 0} (P : X → Type 0) (xs : List X) (k : ℕ) (x : X) → AllByRecursion P xs → slice_get xs k ≡ Some x → P x
 all_get P [] k x h e = absurd cc
 all_get P (y ∷ ys) zero x h e = let same : y ≡ x = cc in subst P same h.0
 all_get P (y ∷ ys) (suc k) x h e = all_get P ys k x h.1 e
@@ -82,3 +83,7 @@ heights-listed fs code listed e = ap (heights fs at_start) e
 
 pub within_same : (hs : List (ℕ × ℕ)) (m n : ℕ) → IsWithin hs m → m ≤ n → IsWithin hs n
 within_same hs m n h le t lt = h t (omega arith)
+
+-- the element at an index, as a loop gives it
+pub element_at : {X : Type 0} (xs : List X) (k : ℕ) (x : X) → k < length xs → x ≡ get_or xs k x → slice_get xs k ≡ Some x
+element_at {X} xs k x h e = subst (λ (y : X). slice_get xs k ≡ Some y) (sym e) (slice_get-get_or xs k x h)

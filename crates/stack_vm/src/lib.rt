@@ -6,3 +6,6 @@ pub mod crossing;
 pub mod faults;
 pub mod heights;
 pub mod instruction;
+pub mod machine;
+pub mod valid;
+pub mod validating;
