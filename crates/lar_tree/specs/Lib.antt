@@ -1,4 +1,1 @@
 pub mod Answers
-pub mod Counts
-pub mod Fronts
-pub mod Held

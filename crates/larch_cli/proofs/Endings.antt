@@ -1,0 +1,46 @@
+-- How the ends of the steps are ends of the command.
+use Rattle.std.proofs.Common.{◌≡◌, ℕ, ℤ, List, Option, Some, None, Result, Ok, Err, inl, inr, refl, sym, ap, ◌∙◌, subst}
+use Rattle.outside.specs.Held.{stored}
+use Rattle.larch_cli.specs.FilesState.{FilesState, after_write, holding}
+use Rattle.larch_cli.specs.SinkState.{SinkState}
+use Rattle.larch_cli.specs.Words.{image_name}
+use Rattle.larch_cli.specs.Build.{AreNumbersIn, after_reading, image_of, summary, Builds, BuildEnds}
+use Rattle.larch_cli.specs.Steps.{status_of, WriteEnds, PutEnds}
+use Rattle.larch_cli.specs.declared.status.Status.{Status}
+use Rattle.larch_cli.specs.declared.status.Status.TheVariants.{Done, Usage, Absent, FileFault, SinkFault, Memory, Unsupported}
+
+written : (files now : FilesState) (out : SinkState) (numbers : List ℤ) → AreNumbersIn files.held numbers → (status : Status) → WriteEnds {T = Unit {0}} (after_reading files) now image_name (image_of numbers) (Err status) → BuildEnds files now out out status
+written files now out numbers are Done h = absurd h
+written files now out numbers are Usage h = absurd h
+written files now out numbers are (Absent name) h = absurd h
+written files now out numbers are (FileFault name) h = (inr (h.0, record { numbers = numbers; are = are; rose = h.2; front = h.1; now = h.3 }), refl)
+written files now out numbers are SinkFault h = absurd h
+written files now out numbers are Memory (inl e) = inl (inr (inl e), refl)
+written files now out numbers are Memory (inr e) = inl (inr (inr e), refl)
+written files now out numbers are Unsupported h = absurd h
+
+-- a write that did not succeed ends the command
+pub write_ends : (files mid now : FilesState) (out : SinkState) (numbers : List ℤ) (bytes : List ℕ) (status : Status) → AreNumbersIn files.held numbers → mid ≡ after_reading files → bytes ≡ image_of numbers
+    → WriteEnds {T = Unit {0}} mid now image_name bytes (Err status) → BuildEnds files now out out status
+write_ends files mid now out numbers bytes status are read made h =
+    written files now out numbers are status (subst (λ m. WriteEnds {T = Unit {0}} m now image_name (image_of numbers) (Err status)) read (subst (λ b. WriteEnds {T = Unit {0}} mid now image_name b (Err status)) made h))
+
+-- the image was written
+pub builds : (files mid now : FilesState) (numbers : List ℤ) (bytes : List ℕ) → AreNumbersIn files.held numbers → mid ≡ after_reading files → bytes ≡ image_of numbers
+    → now ≡ holding (stored image_name bytes mid.held) (after_write mid) → Builds files now
+builds files mid now numbers bytes are read made wrote = record {
+  numbers = numbers;
+  are = are;
+  now = wrote ∙ ap (λ b. holding (stored image_name b mid.held) (after_write mid)) made ∙ ap (λ (m : FilesState). holding (stored image_name (image_of numbers) m.held) (after_write m)) read;
+}
+
+-- putting the line of units ends the command
+pub put_ends : (files now : FilesState) (out out_now : SinkState) → Builds files now → (put : Result (Unit {0}) Status) → PutEnds out out_now summary put → BuildEnds files now out out_now (status_of put)
+put_ends files now out out_now built (Ok x) h = (built, h)
+put_ends files now out out_now built (Err Done) h = absurd h
+put_ends files now out out_now built (Err Usage) h = absurd h
+put_ends files now out out_now built (Err (Absent name)) h = absurd h
+put_ends files now out out_now built (Err (FileFault name)) h = absurd h
+put_ends files now out out_now built (Err SinkFault) h = (built, h.0, h.1)
+put_ends files now out out_now built (Err Memory) h = inr (built, h.0, h.1)
+put_ends files now out out_now built (Err Unsupported) h = absurd h

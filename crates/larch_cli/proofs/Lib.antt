@@ -1,0 +1,5 @@
+pub mod Answering
+pub mod Endings
+pub mod PrintsLinked
+pub mod Texts
+pub mod WholeFiles

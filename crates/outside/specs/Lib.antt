@@ -1,0 +1,5 @@
+pub mod CallsState
+pub mod Counts
+pub mod Entries
+pub mod Fronts
+pub mod Held
