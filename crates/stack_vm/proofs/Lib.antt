@@ -1,6 +1,15 @@
 pub mod Crossed
 pub mod FirstFault
+pub mod Frames
 pub mod Listing
 pub mod Measuring
 pub mod Offsets
+pub mod Parts
+pub mod Places
+pub mod Running
 pub mod Showing
+pub mod Stack
+pub mod Stays
+pub mod Stops
+pub mod Texts
+pub mod Turns

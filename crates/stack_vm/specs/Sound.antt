@@ -11,9 +11,9 @@ pub record At (fs : List LinkedFn) (f : LinkedFn) (place height : ℕ) : Type 0 
   pub has : first_at (heights_of fs f.code) place ≡ Some height
 
 -- the instruction at this offset has the height that is left where this many words are taken and pushed
-pub record Leaves (fs : List LinkedFn) (f : LinkedFn) (next height takes pushes : ℕ) : Type 0 where
+pub record Leaves (fs : List LinkedFn) (f : LinkedFn) (place height takes pushes : ℕ) : Type 0 where
   pub there : takes ≤ height
-  pub next : At fs f next ((height - takes) + pushes)
+  pub next : At fs f place ((height - takes) + pushes)
 
 abbrev pub IsFine : List LinkedFn → LinkedFn → ℕ → ℕ → Instruction → Type 0
 IsFine fs f place height (Push8 n) = Leaves fs f (place + 2) height 0 1
