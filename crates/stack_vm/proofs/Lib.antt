@@ -8,6 +8,7 @@ pub mod Parts
 pub mod Places
 pub mod Running
 pub mod Showing
+pub mod Soundness
 pub mod Stack
 pub mod Stays
 pub mod Stops
