@@ -2,11 +2,12 @@ pub mod Crossed
 pub mod FirstFault
 pub mod Frames
 pub mod Listing
+pub mod Loop
 pub mod Measuring
+pub mod Moves
 pub mod Offsets
 pub mod Parts
 pub mod Places
-pub mod Running
 pub mod Showing
 pub mod Soundness
 pub mod Stack

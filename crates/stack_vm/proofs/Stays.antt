@@ -5,6 +5,7 @@ use Rattle.std.proofs.lemmas.Bool.Decides.{nat_tests}
 use Rattle.std.specs.Prelude.{nat_le}
 use Rattle.stack_vm.specs.Instruction.{takes, size}
 use Rattle.stack_vm.specs.Effect.{under, pushes, goes_on, after, Moved, one}
+use Rattle.stack_vm.specs.Running.{act}
 use Rattle.stack_vm.specs.Acts.{Act, Outcome, Goes, Stuck, slots_after, has_slot, prints, pushing, staying}
 use Rattle.stack_vm.proofs.Stack.{under_drop, front_stays, slots_stay, operands_are, stored_front, stored_slots, stored_operands}
 use Rattle.stack_vm.specs.declared.instruction.Instruction.{Instruction}
@@ -46,10 +47,6 @@ same Less place S T a c b d l p q = let e : b ≡ d = p (omega arith) in let f :
 same AtMost place S T a c b d l p q = let e : b ≡ d = p (omega arith) in let f : a ≡ c = q (omega arith) in rw (e, f) (record { pushed = refl; goes = refl; printed = refl })
 same Greater place S T a c b d l p q = let e : b ≡ d = p (omega arith) in let f : a ≡ c = q (omega arith) in rw (e, f) (record { pushed = refl; goes = refl; printed = refl })
 same AtLeast place S T a c b d l p q = let e : b ≡ d = p (omega arith) in let f : a ≡ c = q (omega arith) in rw (e, f) (record { pushed = refl; goes = refl; printed = refl })
-
--- a function at work, as it lies on the stack
-abbrev pub act : ℕ → State → List ℤ → Act
-act count s V = record { number = s.number; place = s.place; slots = take count (drop s.base V); operands = drop (s.base + count) V }
 
 pub chosen : (b c : Bool) (x y : Outcome) → b ≡ true → c ≡ true → (if b && c then x else y) ≡ x
 chosen b c x y e f = rw (e, f) refl

@@ -8,11 +8,12 @@ use Rattle.stack_vm.specs.Heights.{greatest_of}
 use Rattle.stack_vm.specs.Effect.{under, pushes, goes_on, after, is_inner, Did}
 use Rattle.stack_vm.specs.Sound.{IsFine, Leaves}
 use Rattle.stack_vm.specs.Standing.{height, TooDeep}
+use Rattle.stack_vm.specs.Running.{act, seen}
 use Rattle.stack_vm.specs.Acts.{Act, Outcome, Goes, Ends, Traps, Stuck, staying, pushing, calling, obey, step, turn, runs, prints, has_slot, words_of}
 use Rattle.stack_vm.proofs.Stack.{front_stays, stored_front, under_drop}
-use Rattle.stack_vm.proofs.Stays.{act, stays, below_is, Same, same, slot_low, enough, chosen}
-use Rattle.stack_vm.proofs.Turns.{seen, length-seen, no_test}
-use Rattle.stack_vm.proofs.Running.{fine_room, obey_inner}
+use Rattle.stack_vm.proofs.Stays.{stays, below_is, Same, same, slot_low, enough, chosen}
+use Rattle.stack_vm.proofs.Turns.{length-seen, no_test}
+use Rattle.stack_vm.proofs.Moves.{fine_room, obey_inner}
 use Rattle.stack_vm.specs.declared.instruction.Instruction.{Instruction}
 use Rattle.stack_vm.specs.declared.instruction.Instruction.TheVariants.{Push8, Push64, Load, Store, Pop, Dup, Nop, Add, Sub, Mul, Div, Rem, Neg, Equal, NotEqual, Less, AtMost, Greater, AtLeast, Not, Jump, JumpZero, Call, Return, Print, Trap}
 use Rattle.object_format.specs.Image.{LinkedFn}

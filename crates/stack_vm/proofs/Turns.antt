@@ -4,30 +4,14 @@ use Rattle.std.specs.Prelude.{nat_lt}
 use Rattle.std.proofs.lemmas.List.{length-take, take-take, drop-drop, reverse-append, length-reverse, take-append-le, drop-append-le, length-replicate, take_all, drop_all}
 use Rattle.std.proofs.lemmas.Bool.Decides.{nat_tests}
 use Rattle.stack_vm.specs.Heights.{greatest_of}
+use Rattle.stack_vm.specs.Running.{act, slots_count, frame_act, seen, Counted}
 use Rattle.stack_vm.specs.Acts.{Act, Outcome, Goes, Traps, Stuck, calling, returning, words_of}
 use Rattle.stack_vm.specs.Standing.{Called, begun, waiting, resumed}
 use Rattle.stack_vm.proofs.Stack.{drop_take_at}
-use Rattle.stack_vm.proofs.Stays.{act, made, built}
+use Rattle.stack_vm.proofs.Stays.{made, built}
 use Rattle.object_format.specs.Image.{LinkedFn}
 use Rattle.stack_vm.specs.declared.machine.State.{State}
 use Rattle.stack_vm.specs.declared.machine.Frame.{Frame}
-
-abbrev pub slots_count : Option LinkedFn → ℕ
-slots_count None = 0
-slots_count (Some f) = f.slots
-
-abbrev pub frame_act : List LinkedFn → Frame → List ℤ → Act
-frame_act fs g V = record {
-  number = g.number;
-  place = g.place;
-  slots = take (slots_count (slice_get fs g.number)) (drop g.base V);
-  operands = drop (g.base + slots_count (slice_get fs g.number)) V;
-}
-
--- the functions that wait, as they lie on the stack
-abbrev pub seen : List LinkedFn → List Frame → List ℤ → List Act
-seen fs [] V = []
-seen fs (g ∷ gs) V = frame_act fs g V ∷ seen fs gs (take g.base V)
 
 pub length-seen : (fs : List LinkedFn) (gs : List Frame) (V : List ℤ) → length (seen fs gs V) ≡ length gs
 length-seen fs [] V = refl
@@ -97,11 +81,6 @@ returns fs f h s b V now gs is long room words =
     (sym (ap (λ (xs : List ℤ). take h.slots xs) (drop-append-le b.base U p (omega (arith, size, room))) ∙ take-append-le h.slots (drop b.base U) p (omega (arith, length-drop b.base U, size, room))))
     (sym (drop-append-le (b.base + h.slots) U p (omega (arith, size, room)) ∙ ap (λ (n : ℕ). drop (b.base + h.slots) U ++ drop n V) same)))
     (ap (λ (xs : List ℤ). seen fs gs xs) (sym (take-append-le b.base U p (omega (arith, size, room))))))
-
--- each count is of the operand words below
-abbrev pub Counted : List LinkedFn → List Frame → List ℤ → ℕ → Type 0
-Counted fs [] V below = below ≡ 0
-Counted fs (g ∷ gs) V below = (below ≡ length (frame_act fs g V).operands + g.below) × Counted fs gs (take g.base V) g.below
 
 pub counted_is : (fs : List LinkedFn) (gs : List Frame) (V : List ℤ) (below : ℕ) → Counted fs gs V below → below ≡ words_of (seen fs gs V)
 counted_is fs [] V below c = c

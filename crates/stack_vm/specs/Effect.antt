@@ -75,8 +75,8 @@ Moved s t place = (t.number ≡ s.number) × (t.base ≡ s.base) × (t.below ≡
 -- what one step did, from these words and this state to the words now
 abbrev pub Did : List ℤ → State → Instruction → Next → List ℤ → Type 0
 Did words s i (next.Went t) now = (pushed : List ℤ) × (pushes i (drop s.base words) (under words 1) (under words 0) ≡ Ok pushed) × (now ≡ after i s.base words pushed) × (is_inner i ≡ true) × Moved s t (goes_on i s.place (under words 0)) × (is_print i ≡ false)
-Did words s i (next.Call k) now = i ≡ Call k
-Did words s i next.Return now = i ≡ Return
+Did words s i (next.Call k) now = (i ≡ Call k) × (now ≡ words)
+Did words s i next.Return now = (i ≡ Return) × (now ≡ words)
 Did words s i (next.Print t x) now = (i ≡ Print) × (x ≡ under words 0) × (now ≡ take (length words - 1) words) × Moved s t (s.place + 1)
 Did words s i (next.Trapped kind) now = pushes i (drop s.base words) (under words 1) (under words 0) ≡ Err kind
 

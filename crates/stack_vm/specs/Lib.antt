@@ -5,6 +5,7 @@ pub mod Heights
 pub mod Instruction
 pub mod MemorySinkState
 pub mod Putting
+pub mod Running
 pub mod SinkState
 pub mod Sound
 pub mod Standing

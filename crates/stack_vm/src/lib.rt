@@ -12,6 +12,7 @@ pub mod instruction;
 pub mod machine;
 pub mod memory_sink;
 pub mod putting;
+pub mod running;
 pub mod sink;
 pub mod std_sink;
 pub mod valid;

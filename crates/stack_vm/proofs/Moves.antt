@@ -4,8 +4,9 @@ use Rattle.stack_vm.specs.Instruction.{takes, instruction_at}
 use Rattle.stack_vm.specs.Effect.{under, pushes, goes_on, after, is_inner, Did}
 use Rattle.stack_vm.specs.Sound.{IsFine, Leaves}
 use Rattle.stack_vm.specs.Standing.{height}
+use Rattle.stack_vm.specs.Running.{act}
 use Rattle.stack_vm.specs.Acts.{Act, Outcome, Goes, Ends, Traps, Stuck, staying, obey, step, turn, runs, prints, has_slot}
-use Rattle.stack_vm.proofs.Stays.{act, stays, below_is}
+use Rattle.stack_vm.proofs.Stays.{stays, below_is}
 use Rattle.stack_vm.specs.declared.instruction.Instruction.{Instruction}
 use Rattle.stack_vm.specs.declared.instruction.Instruction.TheVariants.{Push8, Push64, Load, Store, Pop, Dup, Nop, Add, Sub, Mul, Div, Rem, Neg, Equal, NotEqual, Less, AtMost, Greater, AtLeast, Not, Jump, JumpZero, Call, Return, Print, Trap}
 use Rattle.object_format.specs.Image.{LinkedFn}
