@@ -11,6 +11,7 @@ pub mod Places
 pub mod Showing
 pub mod Soundness
 pub mod Stack
+pub mod Starting
 pub mod Stays
 pub mod Stops
 pub mod Texts

@@ -4,18 +4,19 @@
 //! sink where the next line might not fit, and at the end. So the sink has a front of the text at any
 //! moment, and all of it at the end.
 
-ghost use Rattle.std.specs.Prelude.{◌≡◌, ℕ, ◌+◌, ◌-◌, ◌*◌, ◌<◌, ◌≤◌, ◌^◌, [], ◌∷◌, ◌++◌, length, take, reverse, slice_get, Some, vec_capacity, map};
+ghost use Rattle.std.specs.Prelude.{◌≡◌, ℕ, ◌+◌, ◌-◌, ◌*◌, ◌<◌, ◌≤◌, ◌^◌, [], ◌∷◌, ◌++◌, length, take, reverse, slice_get, Some, Option, vec_capacity, map};
 ghost use Rattle.object_format.specs.Image.{LinkedFn};
 ghost use Rattle.stack_vm.specs.Heights.{greatest_of};
 ghost use Rattle.stack_vm.specs.Sound.{AllSound};
 ghost use Rattle.stack_vm.specs.Standing.{Runs, RunsOn};
-ghost use Rattle.stack_vm.specs.Acts.{line_of, runs};
-ghost use Rattle.stack_vm.specs.Running.{acts, Counted, Keeps, WorkLeaves};
-ghost use Rattle.stack_vm.specs.SinkState.{with_text};
+ghost use Rattle.stack_vm.specs.Acts.{line_of, runs, runs_from, Ran};
+ghost use Rattle.stack_vm.specs.Running.{acts, Counted, Keeps, WorkLeaves, RunLeaves};
+ghost use Rattle.stack_vm.specs.SinkState.{SinkState, with_text};
 
 use crate::Sink;
 use crate::end::{End, Kind};
-use crate::machine::{Frame, Next, State, TEXT_ROOM, call, leave, step};
+use crate::copies::clear;
+use crate::machine::{Frame, MOST_WORDS, Next, State, TEXT_ROOM, call, greatest_at, leave, step};
 use crate::putting::{Putting, put_all};
 use itoa::Buffer;
 use object_format::ImageFn;
@@ -135,4 +136,64 @@ fn work<S: Sink>(
         }
     }
     End::OutOfSteps
+}
+
+/// Puts what is kept, unless the run ended by a put. The answer is how the whole run ends.
+fn finish<S: Sink>(alloc: Global, sink: &mut S, text: &[u8], end: End) -> End
+    ensures { (wanted : Option Ran) (old : SinkState) → WorkLeaves wanted old (S.told sink.old) text.now end → RunLeaves wanted old (S.told sink.new) result }
+{
+    match end {
+        End::WriteFault => End::WriteFault,
+        End::Memory => End::Memory,
+        _ => match put_all(alloc, sink, text) {
+            Putting::Done => end,
+            Putting::Failed => End::WriteFault,
+            Putting::Memory => End::Memory,
+        },
+    }
+}
+
+/// Runs from the entry for at most so many steps.
+pub fn run_from<S: Sink>(
+    alloc: Global,
+    functions: &[ImageFn],
+    greatest: &[u32],
+    entry: u32,
+    words: &mut [i64],
+    frames: &mut Vec<Frame>,
+    text: &mut Vec<u8>,
+    steps: u64,
+    sink: &mut S,
+) -> End
+    requires greatest { greatest.now ≡ map (greatest_of functions.now) functions.now }
+    requires sound { AllSound functions.now }
+    requires there { entry < length functions.now }
+    requires long { length words.old ≡ 3_598_576 }
+    requires frames { 10_000 ≤ vec_capacity frames.old }
+    requires text { 65_536 ≤ vec_capacity text.old }
+    ensures leaves { RunLeaves (runs_from functions.now steps entry (slice_get functions.now entry)) (S.told sink.old) (S.told sink.new) result }
+    ensures frames { vec_capacity frames.old ≤ vec_capacity frames.new }
+    ensures text { vec_capacity text.old ≤ vec_capacity text.new }
+{
+    frames.clear();
+    text.clear();
+    let function = &functions[entry as usize];
+    if greatest_at(functions, greatest, function, entry) > MOST_WORDS {
+        return End::Trapped {
+            kind: Kind::Depth,
+            function: entry,
+            offset: 0,
+        };
+    }
+    let top = function.slots() as usize;
+    clear(words, 0, top);
+    let start = State {
+        number: entry,
+        place: 0,
+        base: 0,
+        top,
+        below: 0,
+    };
+    let end = work(alloc, functions, greatest, start, words, frames, text, steps, sink);
+    finish(alloc, sink, text.as_slice(), end)
 }

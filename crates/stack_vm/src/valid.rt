@@ -4,8 +4,13 @@ ghost use Rattle.std.specs.Prelude.{◌≡◌, ◌^◌, Bool, true, false, OnOk,
 ghost use Rattle.lar_tree.specs.Answers.{Answers};
 ghost use Rattle.object_format.specs.Reading.{unless};
 ghost use Rattle.stack_vm.specs.Faults.{image_fault};
+ghost use Rattle.stack_vm.specs.Acts.{runs_of};
+ghost use Rattle.stack_vm.specs.Running.{RunLeaves};
 
+use crate::Sink;
+use crate::end::End;
 use crate::machine::{Frame, MOST_FRAMES, ROOM, TEXT_ROOM};
+use crate::running::run_from;
 use crate::validating::{entry_fault, greatest_heights};
 use lar_tree::OrMemory;
 use object_format::{BadFile, Image};
@@ -80,4 +85,26 @@ impl Valid {
         self.reserved = true;
         Ok(())
     }
+}
+
+/// Runs a valid image from its entry for at most so many steps. The sink gains exactly the text that
+/// the steps print. Where a put fails or finds no memory, the run ends by that, and the sink has a
+/// front of the text. The run itself takes no memory.
+pub fn run<S: Sink>(alloc: Global, valid: &mut Valid, steps: u64, sink: &mut S) -> End
+    requires { valid.old.reserved ≡ true }
+    ensures leaves { RunLeaves (runs_of valid.old.image steps) (S.told sink.old) (S.told sink.new) result }
+    ensures same { valid.new ≡ valid.old }
+{
+    let entry = valid.image.entry();
+    run_from(
+        alloc,
+        valid.image.functions(),
+        valid.greatest.as_slice(),
+        entry,
+        valid.words.as_mut_slice(),
+        &mut valid.frames,
+        &mut valid.text,
+        steps,
+        sink,
+    )
 }
