@@ -8,6 +8,7 @@ use Rattle.stack_vm.specs.SinkState.{SinkState, with_text}
 use Rattle.stack_vm.specs.declared.end.End.{End}
 use Rattle.stack_vm.specs.declared.end.End.TheVariants as end
 use Rattle.stack_vm.proofs.Texts.{append_known-nil}
+use Rattle.larch_cli.proofs.Counting.{sink_rose}
 use Rattle.larch_cli.specs.FilesState.{FilesState}
 use Rattle.larch_cli.specs.Status.{line_of}
 use Rattle.larch_cli.specs.Words.{command_of, source_name, image_name}
@@ -100,16 +101,16 @@ run_came name steps held files files_now out out_now Usage told calm quiet other
 run_came name steps held files files_now out out_now (Absent n) told calm quiet other (load, same) =
     let none = told_some files.held held (λ m. get m name ≡ None) told load.1 in
     subst (λ k. Came (run_of_file name steps (image_in held name) held) files_now out out_now (Absent k)) (sym load.0)
-      (subst (λ a. Came a files_now out out_now (Absent name)) (sym (ap (λ o. run_of_file name steps (option_map valid_image o) held) none))
-        (refused_came (Absent name) held files files_now out out_now (ap (λ (f : FilesState). f.held) load.2) told same))
+    (subst (λ a. Came a files_now out out_now (Absent name)) (sym (ap (λ o. run_of_file name steps (option_map valid_image o) held) none))
+    (refused_came (Absent name) held files files_now out out_now (ap (λ (f : FilesState). f.held) load.2) told same))
 run_came name steps held files files_now out out_now (FileFault n) told calm quiet other (load, same) = absurd (calm load.1)
 run_came name steps held files files_now out out_now SinkFault told calm quiet other h = absurd (quiet h.0)
 run_came name steps held files files_now out out_now Memory told calm quiet other h = absurd (other refl)
 run_came name steps held files files_now out out_now (BadFile n fault) told calm quiet other (load, same) =
     let bad = told_some files.held held (λ m. image_in m name ≡ Some (Err fault)) told load.1 in
     subst (λ k. Came (run_of_file name steps (image_in held name) held) files_now out out_now (BadFile k fault)) (sym load.0)
-      (subst (λ a. Came a files_now out out_now (BadFile name fault)) (sym (ap (λ o. run_of_file name steps o held) bad))
-        (refused_came (BadFile name fault) held files files_now out out_now (ap (λ (f : FilesState). f.held) load.2) told same))
+    (subst (λ a. Came a files_now out out_now (BadFile name fault)) (sym (ap (λ o. run_of_file name steps o held) bad))
+    (refused_came (BadFile name fault) held files files_now out out_now (ap (λ (f : FilesState). f.held) load.2) told same))
 run_came name steps held files files_now out out_now (Trapped kind function offset) told calm quiet other h = ended_came name steps held files files_now out out_now (end.Trapped kind function offset) told h
 run_came name steps held files files_now out out_now OutOfSteps told calm quiet other h = ended_came name steps held files files_now out out_now end.OutOfSteps told h
 run_came name steps held files files_now out out_now Unsupported told calm quiet other h = absurd h
@@ -131,11 +132,6 @@ command_came : (command : Option Command) (held : Held) (files files_now : Files
 command_came None held files files_now out out_now status told calm quiet other h = not_served held files files_now out out_now status told other h
 command_came (Some Build) held files files_now out out_now status told calm quiet other h = build_came held files files_now out out_now status told calm quiet other h
 command_came (Some (Run name steps)) held files files_now out out_now status told calm quiet other h = run_came name steps held files files_now out out_now status told calm quiet other h
-
-sink_rose : (command : Option Command) (files files_now : FilesState) (out out_now : SinkState) → CommandEnds command files files_now out out_now SinkFault → Rose out.faults out_now.faults
-sink_rose None files files_now out out_now h = absurd h
-sink_rose (Some Build) files files_now out out_now h = h.1
-sink_rose (Some (Run name steps)) files files_now out out_now h = h.0
 
 -- a status that was reported as it is
 plainly : (words : List (List ℕ)) (before now : Outside) (answer : Status) (e : PlainEnds words before now answer) → answer ≢ Memory → (answer ≡ e.wanted) × (now.err ≡ with_text (line_of e.wanted) before.err)

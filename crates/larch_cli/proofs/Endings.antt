@@ -1,5 +1,5 @@
 -- How the ends of the steps are ends of the command.
-use Rattle.std.proofs.Common.{◌≡◌, ℕ, ℤ, List, Result, Ok, Err, inl, inr, refl, ap, ◌∙◌, subst}
+use Rattle.std.proofs.Common.{◌≡◌, ℕ, ℤ, List, Result, Ok, Err, inl, inr, refl, ap, ◌∙◌, subst, Some, sym}
 use Rattle.object_format.specs.Image.{Linked}
 use Rattle.outside.specs.Held.{stored}
 use Rattle.stack_vm.specs.Acts.{runs_of}

@@ -31,8 +31,9 @@ fn valid_image(alloc: Global, bytes: Bytes) -> Result<Valid, OrMemory<BadFile>>
 pub(crate) fn load<F: Files>(alloc: Global, files: &mut F, name: &Text) -> Result<Valid, Status>
     ensures { LoadEnds name.now (F.told files.old) (F.told files.new) (image_of_valid result) }
 {
-    let named = Text::copied(alloc, name.as_str())?;
-    let bytes = match files.read(alloc, name.as_str(), MOST_OF_IMAGE + 1) {
+    let text = name.as_str();
+    let named = Text::copied(alloc, text)?;
+    let bytes = match files.read(alloc, text, MOST_OF_IMAGE + 1) {
         Ok(Read::Bytes(bytes)) => bytes,
         Ok(Read::Absent) => return Err(Status::Absent(named)),
         Ok(Read::Failed) => return Err(Status::FileFault(named)),

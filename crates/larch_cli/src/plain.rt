@@ -16,7 +16,12 @@ use stack_vm::Sink;
 use std::alloc::Global;
 
 // The command that the words name, but for the line on the error stream.
-fn serve<F: Files, S: Sink>(alloc: Global, words: &[String], files: &mut F, out: &mut S) -> Result<(), Status>
+fn serve<F: Files, S: Sink>(
+    alloc: Global,
+    words: &[String],
+    files: &mut F,
+    out: &mut S,
+) -> Result<(), Status>
     ensures { CommandEnds (command_of (map string_bytes words.now)) (F.told files.old) (F.told files.new) (S.told out.old) (S.told out.new) (status_of result) }
 {
     match command_of(alloc, words)? {

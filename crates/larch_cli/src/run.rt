@@ -36,6 +36,6 @@ pub(crate) fn run_image<F: Files, S: Sink>(
 {
     let mut valid = load(alloc, files, name)?;
     valid.reserve(alloc)?;
-    let end = run(&mut valid, alloc, steps, out);
+    let end = run(alloc, &mut valid, steps, out);
     status_of_end(end)
 }

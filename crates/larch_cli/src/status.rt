@@ -1,4 +1,5 @@
-ghost use Rattle.std.specs.Prelude.{◌≡◌, IfOk, string_bytes};
+ghost use Rattle.std.specs.Prelude.{◌≡◌, ◌++◌, IfOk, codes, string_bytes};
+ghost use Rattle.std.specs.Fmt.{decimal};
 ghost use Rattle.larch_cli.specs.Status.{kind_word, line_of, number_of};
 
 use lar_tree::Text;
@@ -42,6 +43,18 @@ fn kind_word(kind: Kind) -> &'static str
     }
 }
 
+fn bad_file_line(alloc: Global, name: &str, at: u64, what: &str) -> Result<String, AllocError>
+    ensures { IfOk result (λ line. string_bytes line ≡ codes "larchc: " ++ (name.now ++ (codes ": bad file at " ++ (decimal at ++ (codes ": " ++ (what.now ++ codes "\n")))))) }
+{
+    format!(in alloc; "larchc: {name}: bad file at {at}: {what}\n")
+}
+
+fn trap_line(alloc: Global, kind: &str, function: u32, offset: u32) -> Result<String, AllocError>
+    ensures { IfOk result (λ line. string_bytes line ≡ codes "larchc: trap " ++ (kind.now ++ (codes " at " ++ (decimal function ++ (codes ":" ++ (decimal offset ++ codes "\n")))))) }
+{
+    format!(in alloc; "larchc: trap {kind} at {function}:{offset}\n")
+}
+
 impl Status {
     /// The number with which the process ends.
     pub fn number(&self) -> u8
@@ -79,14 +92,10 @@ impl Status {
             }
             Status::Memory => format!(in alloc; "larchc: out of memory\n"),
             Status::BadFile(name, fault) => {
-                let name = name.as_str();
-                let at = fault.at;
-                let what = fault.what.word();
-                format!(in alloc; "larchc: {name}: bad file at {at}: {what}\n")
+                bad_file_line(alloc, name.as_str(), fault.at, fault.what.word())
             }
             Status::Trapped(kind, function, offset) => {
-                let kind = kind_word(*kind);
-                format!(in alloc; "larchc: trap {kind} at {function}:{offset}\n")
+                trap_line(alloc, kind_word(*kind), *function, *offset)
             }
             Status::OutOfSteps => format!(in alloc; "larchc: out of steps\n"),
             Status::Unsupported => format!(in alloc; "larchc: unsupported input\n"),

@@ -55,7 +55,11 @@ fn is_digit(byte: u8) -> bool
 fn is_name_byte(byte: u8) -> bool
     ensures { result ≡ spec.is_name_byte byte }
 {
-    is_digit(byte) || (byte >= b'A' && byte <= b'Z') || (byte >= b'a' && byte <= b'z') || byte == b'_' || byte == b'.'
+    is_digit(byte)
+        || (byte >= b'A' && byte <= b'Z')
+        || (byte >= b'a' && byte <= b'z')
+        || byte == b'_'
+        || byte == b'.'
 }
 
 fn are_name_bytes(bytes: &[u8]) -> bool
@@ -94,7 +98,9 @@ fn value_of(digits: &[u8]) -> u64
 {
     let mut value = 0u64;
     for digit in digits {
-        value = value.saturating_mul(10).saturating_add((*digit - b'0') as u64);
+        value = value
+            .saturating_mul(10)
+            .saturating_add((*digit - b'0') as u64);
     }
     value
 }
@@ -109,14 +115,14 @@ fn number_in(least: u64, most: u64, word: &str) -> Option<u64>
         return None;
     }
     let value = value_of(digits);
-    if least <= value && value <= most { Some(value) } else { None }
+    if least <= value && value <= most {
+        Some(value)
+    } else {
+        None
+    }
 }
 
-fn run_named(
-    alloc: Global,
-    name: &str,
-    steps: Option<u64>,
-) -> Result<Option<Command>, AllocError>
+fn run_named(alloc: Global, name: &str, steps: Option<u64>) -> Result<Option<Command>, AllocError>
     ensures { IfOk result (λ found. found ≡ spec.run_named name.now steps) }
 {
     let Some(steps) = steps else {
