@@ -1,4 +1,11 @@
-//! The command line of the compiler, over files and streams that are handed in.
+//! The command line of the compiler: words, statuses, reports and commands, over files and streams that are handed in.
+//!
+//! [`larch_plain`] serves a command line. Its contract says of every status when it comes and what it leaves of the files and on
+//! the streams, whatever these are and whichever of their calls fail; and where none fails it is a function of the words
+//! and the files. Each command is a row of steps, and a step answers a value or the status that ends the command, so the order
+//! of refusals is the order of the steps.
+//!
+//! It stands on lar_syntax for the sources, object_format and stack_vm for images, and outside for what the world is to a contract.
 #![tactic(auto)]
 
 mod build;
@@ -22,5 +29,7 @@ pub use plain::larch_plain;
 pub use reporting::report;
 pub use status::Status;
 
+#[cfg(test)]
+mod run_tests;
 #[cfg(test)]
 mod tests;
