@@ -1,12 +1,11 @@
 -- What the grammar has at the front of a text is read there.
 use Rattle.std.specs.Prelude.{◌&&◌}
-use Rattle.std.proofs.Common.{length-append, ◌≡◌, ℕ, ℤ, zero, suc, ◌+◌, ◌-◌, ◌*◌, ◌^◌, ◌<◌, ◌≤◌, ◌==◌, nat_lt, eqb, List, [], ◌∷◌, ◌++◌, length, fold, Option, Some, None, Bool, true, false, cond, codes, pos, IsTrue, refl, sym, ap, ◌∙◌, subst, append_assoc, unwrap_or, rules, arith}
+use Rattle.std.proofs.Common.{length-append, ◌≡◌, ℕ, ℤ, zero, suc, ◌+◌, ◌-◌, ◌*◌, ◌^◌, ◌<◌, ◌≤◌, ◌==◌, nat_lt, List, [], ◌∷◌, ◌++◌, length, fold, Some, None, Bool, true, false, codes, refl, sym, ap, ◌∙◌, subst, append_assoc, arith}
 use Rattle.std.specs.List.{list_all, flat_map}
-use Rattle.std.specs.Option.{option_map_or}
-use Rattle.std.proofs.lemmas.Bool.{eqb-true, eq-eqb}
+use Rattle.std.proofs.lemmas.Bool.{eq-eqb}
 use Rattle.std.proofs.lemmas.List.{append-nil}
 use Rattle.lar_syntax.specs.Thin.{is_blank, is_digit, AreBlanks, value_of, Writes, AllWritten, Spaced, print_parts, main_parts, IsThin}
-use Rattle.lar_syntax.specs.Reading.{◌>>=◌, after_blanks, after_word, part, digits_at, number_at, print_at, prints_at, head_at, is_end, thin}
+use Rattle.lar_syntax.specs.Reading.{after_blanks, after_word, part, digits_at, number_at, print_at, prints_at, head_at, is_end, thin}
 
 -- the front is no blank, or there is none
 abbrev Solid : List ℕ → Type 0

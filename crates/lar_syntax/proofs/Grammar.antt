@@ -1,5 +1,5 @@
 -- What reading takes from the front of a text is in the grammar.
-use Rattle.std.proofs.Common.{◌≡◌, ℕ, ℤ, zero, suc, ◌+◌, ◌-◌, ◌*◌, ◌^◌, ◌<◌, ◌≤◌, ◌==◌, nat_lt, eqb, List, [], ◌∷◌, ◌++◌, length, fold, Option, Some, None, Bool, true, false, cond, codes, pos, IsTrue, refl, sym, ap, ◌∙◌, subst, append_assoc, unwrap_or, rules, arith}
+use Rattle.std.proofs.Common.{◌≡◌, ℕ, ℤ, zero, suc, ◌+◌, ◌-◌, ◌*◌, ◌^◌, ◌<◌, ◌≤◌, ◌==◌, nat_lt, List, [], ◌∷◌, ◌++◌, length, fold, Option, Some, None, Bool, true, false, cond, codes, pos, refl, sym, ap, ◌∙◌, subst, unwrap_or, arith}
 use Rattle.std.specs.List.{list_all, flat_map}
 use Rattle.std.proofs.lemmas.Bool.{eqb-true}
 use Rattle.std.proofs.lemmas.List.{append-nil}

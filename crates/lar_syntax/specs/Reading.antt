@@ -1,5 +1,5 @@
 -- How a file in the thin form is read, from the left.
-use Rattle.std.specs.Prelude.{ℕ, zero, suc, ◌+◌, ◌-◌, ◌*◌, ◌^◌, ◌==◌, ◌||◌, ◌&&◌, nat_lt, nat_le, if◌then◌else◌, Bool, false, List, [], ◌∷◌, length, Option, Some, None, ℤ, pos, codes}
+use Rattle.std.specs.Prelude.{ℕ, zero, suc, ◌+◌, ◌-◌, ◌*◌, ◌^◌, ◌==◌, nat_lt, if◌then◌else◌, Bool, false, List, [], ◌∷◌, length, Option, Some, None, ℤ, pos, codes}
 use Rattle.std.specs.Option.{option_map_or}
 use Rattle.lar_syntax.specs.Thin.{is_blank, is_digit}
 

@@ -46,6 +46,32 @@ fn numbers_are_read(rt: HostRuntime) -> Result<(), Fail> {
 }
 
 #[test]
+fn a_blank_may_stand_in_each_place(rt: HostRuntime) -> Result<(), Fail> {
+    let alloc = rt.alloc();
+    let parts = [
+        "", "fn ", "main", "(", ")", "{", "print", "(", "5", ")", ";", "}",
+    ];
+    for blank in [b' ', b'\t', b'\r', b'\n'] {
+        for place in 0..parts.len() {
+            let mut source = Vec::new(alloc);
+            for (i, part) in parts.iter().enumerate() {
+                source.extend_from_slice(part.as_bytes())?;
+                if i == place {
+                    source.push(blank)?;
+                }
+            }
+            let found = numbers_of(alloc, &source)?.ok_or("not read")?;
+            assert_eq!(rt;
+                found.as_slice(),
+                [5i64].as_slice(),
+                "blank {blank} in place {place}"
+            );
+        }
+    }
+    Ok(())
+}
+
+#[test]
 fn other_forms_are_refused(rt: HostRuntime) -> Result<(), Fail> {
     let alloc = rt.alloc();
     let cases = [

@@ -1,16 +1,16 @@
 -- Why a call that meets no fault gives the answer.
-use Rattle.std.proofs.Common.{◌≡◌, ◌≢◌, ◌⊎◌, inl, inr, ℕ, ℤ, Bool, true, false, cond, List, [], Option, Some, None, IfSome, IsSome, refl, sym, ap, ◌∙◌, subst}
+use Rattle.std.proofs.Common.{◌≡◌, ◌≢◌, inl, inr, ℕ, ℤ, Bool, true, false, cond, List, [], Option, Some, None, IfSome, IsSome, refl, sym, ap, ◌∙◌, subst}
 use Rattle.std.specs.Option.{option_and_then}
-use Rattle.std.specs.FinMap.{get, insert}
+use Rattle.std.specs.FinMap.{get}
 use Rattle.outside.specs.Counts.{Rose}
 use Rattle.outside.specs.Held.{Held, stored}
 use Rattle.larch_cli.specs.FilesState.{FilesState}
 use Rattle.larch_cli.specs.SinkState.{SinkState, with_text}
 use Rattle.larch_cli.specs.Status.{line_of}
 use Rattle.larch_cli.specs.Words.{is_build, source_name, image_name}
-use Rattle.larch_cli.specs.Build.{accepted, numbers_in, image_of, summary, AreNumbersIn, Builds, ReadFails, WriteFails, BuildEnds, after_reading}
+use Rattle.larch_cli.specs.Build.{accepted, numbers_in, image_of, summary, Builds, BuildEnds}
 use Rattle.larch_cli.specs.Report.{Reported}
-use Rattle.larch_cli.specs.Plain.{Outside, NotServed, CommandEnds, PlainEnds, Answer, refused, printed, built, answer_to, IsCalm, Gave, Answered}
+use Rattle.larch_cli.specs.Plain.{Outside, CommandEnds, PlainEnds, Answer, refused, printed, built, answer_to, IsCalm, Gave, Answered}
 use Rattle.larch_cli.specs.declared.status.Status.{Status}
 use Rattle.larch_cli.specs.declared.status.Status.TheVariants.{Done, Usage, Absent, FileFault, SinkFault, Memory, Unsupported}
 use Rattle.larch_cli.proofs.Texts.{append_known-nil}

@@ -1,5 +1,5 @@
 -- How the ends of the steps are ends of the command.
-use Rattle.std.proofs.Common.{◌≡◌, ℕ, ℤ, List, Option, Some, None, Result, Ok, Err, inl, inr, refl, sym, ap, ◌∙◌, subst}
+use Rattle.std.proofs.Common.{◌≡◌, ℕ, ℤ, List, Result, Ok, Err, inl, inr, refl, ap, ◌∙◌, subst}
 use Rattle.outside.specs.Held.{stored}
 use Rattle.larch_cli.specs.FilesState.{FilesState, after_write, holding}
 use Rattle.larch_cli.specs.SinkState.{SinkState}

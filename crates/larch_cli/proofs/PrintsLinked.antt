@@ -1,5 +1,5 @@
 -- The code of prints is whole instructions, and calls nothing.
-use Rattle.std.proofs.Common.{◌≡◌, ℕ, List, [], ◌∷◌, ◌++◌, length, cond, true, false, ℤ, w8, w64, refl, rules}
+use Rattle.std.proofs.Common.{ℕ, List, [], ◌∷◌, ◌++◌, cond, true, false, ℤ, w8, w64, refl, rules}
 use Rattle.std.specs.Int.{to_be_bytes, cast_unsigned}
 use Rattle.std.specs.List.{flat_map}
 use Rattle.object_format.specs.Code.{IsLinkedCode}

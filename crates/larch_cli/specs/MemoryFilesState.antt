@@ -1,5 +1,5 @@
 -- What contracts see of files in memory.
-use Rattle.std.specs.Prelude.{refl, ℕ, ◌&&◌, Bool, true, not, List, [], ◌∷◌, Some, fold, map}
+use Rattle.std.specs.Prelude.{refl, ℕ, ◌&&◌, Bool, true, not, List, [], ◌∷◌, Some, fold}
 use Rattle.std.specs.List.{list_any}
 use Rattle.std.specs.FinMap.{empty, insert}
 use Rattle.std.specs.Str.{bytes_eq}

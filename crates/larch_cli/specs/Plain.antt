@@ -1,5 +1,5 @@
 -- How the top call ends, and what it leaves.
-use Rattle.std.specs.Prelude.{ℕ, ◌≡◌, ◌≢◌, ◌⊎◌, if◌then◌else◌, Bool, true, false, List, [], ◌∷◌, Option, Some, None, IfSome, ℤ}
+use Rattle.std.specs.Prelude.{ℕ, ◌≡◌, ◌≢◌, ◌⊎◌, if◌then◌else◌, Bool, true, false, List, [], Option, Some, None, IfSome, ℤ}
 use Rattle.std.specs.FinMap.{get, insert}
 use Rattle.outside.specs.Counts.{Rose}
 use Rattle.outside.specs.Held.{Held}

@@ -5,7 +5,7 @@ use Rattle.outside.specs.Fronts.{AppendsFront}
 use Rattle.larch_cli.specs.SinkState.{SinkState, with_text}
 use Rattle.larch_cli.specs.Status.{line_of}
 use Rattle.larch_cli.specs.declared.status.Status.{Status}
-use Rattle.larch_cli.specs.declared.status.Status.TheVariants.{Done, Usage, Absent, FileFault, SinkFault, Memory, Unsupported}
+use Rattle.larch_cli.specs.declared.status.Status.TheVariants.{SinkFault, Memory}
 
 -- a front of the line of the status that was wanted, or of the line of want of memory
 abbrev pub SomeLine : SinkState → SinkState → Status → Type 0

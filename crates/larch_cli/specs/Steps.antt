@@ -1,7 +1,7 @@
 -- The steps of a command, each by how it may end the command.
 use Rattle.std.specs.declared.alloc.Global.{Global}
 use Rattle.std.specs.declared.vec.Vec.{Vec}
-use Rattle.std.specs.Prelude.{ℕ, ◌≡◌, ◌⊎◌, List, Option, Some, None, Result, Ok, Err, IfSome, IsSome, ℤ}
+use Rattle.std.specs.Prelude.{ℕ, ◌≡◌, ◌⊎◌, List, None, Result, Ok, Err, IfSome, IsSome, ℤ}
 use Rattle.std.specs.FinMap.{get}
 use Rattle.outside.specs.Counts.{Rose}
 use Rattle.outside.specs.Fronts.{AppendsFront}
@@ -11,7 +11,7 @@ use Rattle.larch_cli.specs.SinkState.{SinkState, with_text}
 use Rattle.larch_cli.specs.Words.{source_name}
 use Rattle.larch_cli.specs.Build.{AreNumbersIn, ReadFails, after_reading, numbers_in}
 use Rattle.larch_cli.specs.declared.status.Status.{Status}
-use Rattle.larch_cli.specs.declared.status.Status.TheVariants.{Done, Usage, Absent, FileFault, SinkFault, Memory, Unsupported}
+use Rattle.larch_cli.specs.declared.status.Status.TheVariants.{Done, Absent, FileFault, SinkFault, Memory, Unsupported}
 
 -- A command that ran to its end is done.
 abbrev pub status_of : {T : Type 0} → Result T Status → Status

@@ -27,3 +27,6 @@ pub use reporting::report;
 pub use sink::{Put, Sink};
 pub use status::Status;
 pub use std_sink::StdSink;
+
+#[cfg(test)]
+mod tests;

@@ -1,4 +1,4 @@
-use Rattle.std.proofs.Common.{take, rules, arith, length-drop, ap, ◌∙◌}
+use Rattle.std.proofs.Common.{take, arith, length-drop, ap, ◌∙◌}
 use Rattle.std.proofs.lemmas.List.{take_all}
 use Rattle.larch_cli.specs.SinkState.{SinkState}
 use Rattle.larch_cli.proofs.Texts.{takes_more, a_front, rose_since}

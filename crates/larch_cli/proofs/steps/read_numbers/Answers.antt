@@ -1,4 +1,3 @@
-use Rattle.std.proofs.Common.{rules}
 use Rattle.larch_cli.proofs.WholeFiles.{gives_numbers, gives_none}
 use Rattle.larch_cli.proofs.steps.read_numbers.Goals as goal
 

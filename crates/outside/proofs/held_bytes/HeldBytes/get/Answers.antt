@@ -1,4 +1,4 @@
-use Rattle.std.proofs.Common.{ℕ, Some, None, Option, Vec, Global, ap, sym, ◌∙◌}
+use Rattle.std.proofs.Common.{ℕ, Some, Vec, Global, ap, sym, ◌∙◌}
 use Rattle.std.specs.Option.{option_map}
 use Rattle.std.specs.FinMap as map
 use Rattle.outside.specs.Held.{Held}

@@ -1,0 +1,313 @@
+use super::*;
+use lar_tree::{Bytes, File, Text};
+use std::alloc::{AllocError, Global};
+use std::process::Abort;
+use std::test::Fail;
+
+// `fn main() { print(7); }`: a function of four bytes, PUSH8 7, PRINT and RET.
+const SEVEN: [u8; 23] = [
+    0x4c, 0x52, 0x50, 0x58, 0, 1, 0, 0, 0, 0, 0, 0, 0, 1, 0, 0, 0, 0, 4, 1, 7, 0x17, 0x16,
+];
+
+// `fn main() { }`: RET alone.
+const NOTHING: [u8; 20] = [
+    0x4c, 0x52, 0x50, 0x58, 0, 1, 0, 0, 0, 0, 0, 0, 0, 1, 0, 0, 0, 0, 1, 0x16,
+];
+
+// 127 and 007 are pushed by one byte; 128 and 9223372036854775807 by eight.
+const EDGES: [u8; 46] = [
+    0x4c, 0x52, 0x50, 0x58, 0, 1, 0, 0, 0, 0, 0, 0, 0, 1, 0, 0, 0, 0, 27, 1, 0x7f, 0x17, 1, 7,
+    0x17, 2, 0, 0, 0, 0, 0, 0, 0, 0x80, 0x17, 2, 0x7f, 0xff, 0xff, 0xff, 0xff, 0xff, 0xff, 0xff,
+    0x17, 0x16,
+];
+
+const BUILD: [&str; 4] = ["build", "main.larch", "--jobs", "1"];
+
+const PRINTS_7: &[u8] = b"fn main() { print(7); }";
+
+// The calls of the files, of out and of err that are to fail.
+#[derive(Clone, Copy)]
+struct Failing<'a> {
+    files: &'a [u64],
+    out: &'a [u64],
+    err: &'a [u64],
+}
+
+const NONE: Failing<'static> = Failing {
+    files: &[],
+    out: &[],
+    err: &[],
+};
+
+// What a run left: its number, both streams, the image, and whether the file beside is as it was.
+#[derive(Drop)]
+struct Left {
+    number: u8,
+    out: Vec<u8>,
+    err: Vec<u8>,
+    image: Option<Vec<u8>>,
+    other_stays: bool,
+}
+
+fn files_with(
+    alloc: Global,
+    source: Option<&[u8]>,
+    failing: &[u64],
+) -> Result<MemoryFiles, AllocError> {
+    let other = File {
+        name: Text::copied(alloc, "other")?,
+        bytes: Bytes::copied(alloc, b"beside")?,
+    };
+    match source {
+        None => MemoryFiles::new(alloc, &[other], failing),
+        Some(source) => {
+            let source = File {
+                name: Text::copied(alloc, "main.larch")?,
+                bytes: Bytes::copied(alloc, source)?,
+            };
+            MemoryFiles::new(alloc, &[source, other], failing)
+        }
+    }
+}
+
+fn owned(alloc: Global, words: &[&str]) -> Result<Vec<String>, AllocError> {
+    let mut owned = Vec::new(alloc);
+    for word in words {
+        owned.push(word.to_string(alloc)?)?;
+    }
+    Ok(owned)
+}
+
+fn run(
+    alloc: Global,
+    words: &[&str],
+    source: Option<&[u8]>,
+    failing: Failing<'_>,
+) -> Result<Left, AllocError> {
+    let words = owned(alloc, words)?;
+    let mut files = files_with(alloc, source, failing.files)?;
+    let mut out = MemorySink::new(alloc, failing.out)?;
+    let mut err = MemorySink::new(alloc, failing.err)?;
+    let status = larch_plain(alloc, &words, &mut files, &mut out, &mut err);
+    let image = match files.held("a.lrpx") {
+        Some(bytes) => Some(bytes.to_vec(alloc)?),
+        None => None,
+    };
+    let other_stays = match files.held("other") {
+        Some(bytes) => bytes == b"beside".as_slice(),
+        None => false,
+    };
+    Ok(Left {
+        number: status.number(),
+        out: out.bytes().to_vec(alloc)?,
+        err: err.bytes().to_vec(alloc)?,
+        image,
+        other_stays,
+    })
+}
+
+fn check(rt: &impl Abort, left: &Left, number: u8, out: &str, err: &str, image: Option<&[u8]>) {
+    assert_eq!(rt; left.number, number);
+    assert_eq!(rt; left.out.as_slice(), out.as_bytes());
+    assert_eq!(rt; left.err.as_slice(), err.as_bytes());
+    match (&left.image, image) {
+        (Some(left), Some(wanted)) => assert_eq!(rt; left.as_slice(), wanted),
+        (None, None) => {}
+        _ => panic!(rt; "an image that is not wanted, or none where one is"),
+    }
+    assert!(rt; left.other_stays);
+}
+
+#[test]
+fn prints_are_built(rt: HostRuntime) -> Result<(), Fail> {
+    let alloc = rt.alloc();
+    let edges = b"fn main() { print(127); print(007); print(128); print(9223372036854775807); }";
+    let cases: [(&[u8], &[u8]); 3] = [
+        (PRINTS_7, &SEVEN),
+        (b"fn main() { }", &NOTHING),
+        (edges, &EDGES),
+    ];
+    for (source, image) in cases {
+        let left = run(alloc, &BUILD, Some(source), NONE)?;
+        check(&rt, &left, 0, "units 1 made 1 reused 0\n", "", Some(image));
+    }
+    Ok(())
+}
+
+#[test]
+fn refusals_leave_the_files(rt: HostRuntime) -> Result<(), Fail> {
+    let alloc = rt.alloc();
+    let left = run(alloc, &BUILD, None, NONE)?;
+    check(&rt, &left, 3, "", "larchc: main.larch: not found\n", None);
+    let others: [&[u8]; 3] = [
+        b"fn main() { let x: i64 = 1; }",
+        b"fn main() { print(9223372036854775808); }",
+        b"",
+    ];
+    for source in others {
+        let left = run(alloc, &BUILD, Some(source), NONE)?;
+        check(&rt, &left, 13, "", "larchc: unsupported input\n", None);
+    }
+    Ok(())
+}
+
+#[test]
+fn other_words_are_refused(rt: HostRuntime) -> Result<(), Fail> {
+    let alloc = rt.alloc();
+    let cases: [&[&str]; 7] = [
+        &[],
+        &["build"],
+        &["build", "main.larch"],
+        &["build", "main.larch", "--jobs", "2"],
+        &["build", "other.larch", "--jobs", "1"],
+        &["check", "main.larch", "--jobs", "1"],
+        &["build", "main.larch", "--jobs", "1", "1"],
+    ];
+    for words in cases {
+        let left = run(alloc, words, Some(PRINTS_7), NONE)?;
+        check(&rt, &left, 2, "", "larchc: usage\n", None);
+    }
+    Ok(())
+}
+
+#[test]
+fn a_file_that_fails_is_named(rt: HostRuntime) -> Result<(), Fail> {
+    let alloc = rt.alloc();
+    let read = Failing {
+        files: &[0],
+        ..NONE
+    };
+    let left = run(alloc, &BUILD, Some(PRINTS_7), read)?;
+    check(&rt, &left, 4, "", "larchc: main.larch: file fault\n", None);
+    let write = Failing {
+        files: &[1],
+        ..NONE
+    };
+    let left = run(alloc, &BUILD, Some(PRINTS_7), write)?;
+    check(&rt, &left, 4, "", "larchc: a.lrpx: file fault\n", None);
+    Ok(())
+}
+
+#[test]
+fn a_stream_that_fails_decides(rt: HostRuntime) -> Result<(), Fail> {
+    let alloc = rt.alloc();
+    let out = Failing { out: &[0], ..NONE };
+    let left = run(alloc, &BUILD, Some(PRINTS_7), out)?;
+    check(&rt, &left, 6, "", "", Some(&SEVEN));
+    let err = Failing { err: &[0], ..NONE };
+    let left = run(alloc, &BUILD, None, err)?;
+    check(&rt, &left, 6, "", "", None);
+    let left = run(alloc, &["build"], None, err)?;
+    check(&rt, &left, 6, "", "", None);
+    // Nothing is put where there is nothing to say.
+    let left = run(alloc, &BUILD, Some(PRINTS_7), err)?;
+    check(&rt, &left, 0, "units 1 made 1 reused 0\n", "", Some(&SEVEN));
+    Ok(())
+}
+
+// A sink that takes one byte of each piece.
+#[derive(Drop)]
+struct Narrow {
+    bytes: Vec<u8>,
+}
+
+impl Sink for Narrow {
+    ghost use Rattle.std.specs.Prelude.{Some};
+
+    ghost told = { λ sink. record { held = Some sink.bytes.items; faults = 0 } };
+
+    fn put(&mut self, _alloc: Global, piece: &[u8]) -> Put {
+        if piece.is_empty() {
+            return Put::Took(0);
+        }
+        match self.bytes.push(piece[0]) {
+            Ok(()) => Put::Took(1),
+            Err(_) => Put::Memory,
+        }
+    }
+}
+
+#[test]
+fn a_line_is_put_byte_by_byte(rt: HostRuntime) -> Result<(), Fail> {
+    let alloc = rt.alloc();
+    let words = owned(alloc, &BUILD)?;
+    let mut files = files_with(alloc, Some(PRINTS_7), &[])?;
+    let mut out = Narrow {
+        bytes: Vec::new(alloc),
+    };
+    let mut err = Narrow {
+        bytes: Vec::new(alloc),
+    };
+    let status = larch_plain(alloc, &words, &mut files, &mut out, &mut err);
+    assert_eq!(rt; status.number(), 0);
+    assert_eq!(rt;
+        out.bytes.as_slice(),
+        b"units 1 made 1 reused 0\n".as_slice()
+    );
+    let status = larch_plain(alloc, &[], &mut files, &mut out, &mut err);
+    assert_eq!(rt; status.number(), 2);
+    assert_eq!(rt; err.bytes.as_slice(), b"larchc: usage\n".as_slice());
+    Ok(())
+}
+
+// `fn main() { print(7); }` with blanks behind it, up to so many bytes.
+fn padded(alloc: Global, len: u64) -> Result<Vec<u8>, AllocError> {
+    let mut source = PRINTS_7.to_vec(alloc)?;
+    for _ in 23..len {
+        source.push(b' ')?;
+    }
+    Ok(source)
+}
+
+#[test]
+fn a_source_has_a_limit(rt: HostRuntime) -> Result<(), Fail> {
+    let alloc = rt.alloc();
+    let mut source = padded(alloc, 16_777_216)?;
+    let left = run(alloc, &BUILD, Some(&source), NONE)?;
+    check(&rt, &left, 0, "units 1 made 1 reused 0\n", "", Some(&SEVEN));
+    source.push(b' ')?;
+    let left = run(alloc, &BUILD, Some(&source), NONE)?;
+    check(&rt, &left, 13, "", "larchc: unsupported input\n", None);
+    Ok(())
+}
+
+// The first bytes of a file of the current folder, or how it could not be read.
+fn front_of<F: Files>(alloc: Global, files: &mut F, name: &str) -> Result<Vec<u8>, AllocError> {
+    match files.read(alloc, name, 3)? {
+        Read::Bytes(bytes) => Ok(bytes.into_vec()),
+        Read::Absent => b"absent".to_vec(alloc),
+        Read::Failed => b"failed".to_vec(alloc),
+    }
+}
+
+#[test]
+fn a_folder_gives_back_what_was_written(rt: HostRuntime) -> Result<(), Fail> {
+    let alloc = rt.alloc();
+    let mut files = FolderFiles::new(rt);
+    for bytes in [b"abc".as_slice(), b"de".as_slice(), b"fghi".as_slice()] {
+        assert_eq!(rt; files.write(alloc, "larch_cli.test", bytes), Wrote::Done);
+        let held = front_of(alloc, &mut files, "larch_cli.test")?;
+        assert_eq!(rt; held.as_slice(), &bytes[..bytes.len().min(3)]);
+    }
+    let cases = [
+        (".larch_cli.test.part", "absent"),
+        ("larch_cli.none", "absent"),
+        (".", "failed"),
+    ];
+    for (name, wanted) in cases {
+        let read = front_of(alloc, &mut files, name)?;
+        assert_eq!(rt; read.as_slice(), wanted.as_bytes(), "at {name}");
+    }
+    assert_eq!(rt; files.write(alloc, ".", b""), Wrote::Failed);
+    Ok(())
+}
+
+#[test]
+fn a_stream_takes_a_piece(rt: HostRuntime) -> Result<(), Fail> {
+    let alloc = rt.alloc();
+    let mut out = StdSink::out(rt.stdout());
+    assert_eq!(rt; out.put(alloc, b""), Put::Took(0));
+    let mut err = StdSink::err(rt.stderr());
+    assert_eq!(rt; err.put(alloc, b"\n"), Put::Took(1));
+    Ok(())
+}
