@@ -69,14 +69,6 @@ const LEAST: [u8; 24] = [
     0x16,
 ];
 
-const fn trapped(kind: Kind, offset: u32) -> End {
-    End::Trapped {
-        kind,
-        function: 0,
-        offset,
-    }
-}
-
 // Slots, code, the most steps, and how the run ends with which text.
 const RUNS: [(u8, &[u8], u64, End, &str); 22] = [
     (0, &PRINTS_7, 3, End::Ended, "7\n"),
@@ -87,14 +79,22 @@ const RUNS: [(u8, &[u8], u64, End, &str); 22] = [
         0,
         &LEAST,
         5,
-        trapped(Kind::Overflow, 21),
+        End::Trapped {
+            kind: Kind::Overflow,
+            function: 0,
+            offset: 21,
+        },
         "-9223372036854775808\n",
     ),
     (
         0,
         &LEAST,
         100,
-        trapped(Kind::Overflow, 21),
+        End::Trapped {
+            kind: Kind::Overflow,
+            function: 0,
+            offset: 21,
+        },
         "-9223372036854775808\n",
     ),
     (0, &LEAST, 4, End::OutOfSteps, "-9223372036854775808\n"),
@@ -102,23 +102,45 @@ const RUNS: [(u8, &[u8], u64, End, &str); 22] = [
         0,
         &[0x01, 1, 0x01, 0, 0x09, 0x05, 0x16],
         9,
-        trapped(Kind::Division, 4),
+        End::Trapped {
+            kind: Kind::Division,
+            function: 0,
+            offset: 4,
+        },
         "",
     ),
     (
         0,
         &[0x1a, 0x01, 1, 0x01, 0, 0x0a, 0x05, 0x16],
         9,
-        trapped(Kind::Division, 5),
+        End::Trapped {
+            kind: Kind::Division,
+            function: 0,
+            offset: 5,
+        },
         "",
     ),
-    (0, &[0x1a, 0x18], 9, trapped(Kind::Trap, 1), ""),
+    (
+        0,
+        &[0x1a, 0x18],
+        9,
+        End::Trapped {
+            kind: Kind::Trap,
+            function: 0,
+            offset: 1,
+        },
+        "",
+    ),
     // calls itself for ever: one frame too many
     (
         0,
         &[0x15, 0, 0, 0, 0, 0x16],
         1_000_000,
-        trapped(Kind::Depth, 0),
+        End::Trapped {
+            kind: Kind::Depth,
+            function: 0,
+            offset: 0,
+        },
         "",
     ),
     (0, &[0x01, 5, 0x0b, 0x17, 0x16], 9, End::Ended, "-5\n"),
