@@ -104,13 +104,15 @@ front_of count code offset (Some o) is lt fine more =
     let split : drop offset code ≡ byte ∷ behind = drop_more code offset 0 lt in
     let moved = placed-skip (offset + 1) n behind long ∙ ap (λ (k : ℕ). placed k 0 (drop n behind)) end ∙ ap (placed (offset + size i) 0) dropped in
     let rest : operand_of (opcode_of byte) ≡ n = ap operand_of is in
-    let after = code_fault-skip count (offset + 1) n behind long ∙ ap (λ (k : ℕ). code_fault count k 0 (drop n behind)) end ∙ ap (code_fault count (offset + size i) 0) dropped in
-    (i, record {
-      there = record { within = lt; begun = begun };
-      long = omega (arith, long, length-drop (offset + 1) code, sized, lt);
-      placed = ap (placed offset 0) split ∙ ap (λ (ps : List Placed). ps ++ placed (offset + 1) (operand_of (opcode_of byte)) behind) begun ∙ ap (λ (k : ℕ). record { offset = offset; instruction = i } ∷ placed (offset + 1) k behind) rest ∙ ap (λ (ps : List Placed). record { offset = offset; instruction = i } ∷ ps) moved;
-      whole = sym after ∙ more;
-    })
+    let after = code_fault-skip count (offset + 1) n behind long ∙ ap (λ (k : ℕ). code_fault count k 0 (drop n behind)) end ∙ ap (code_fault count (offset + size i) 0) dropped in (
+      i,
+      record {
+        there = record { within = lt; begun = begun };
+        long = omega (arith, long, length-drop (offset + 1) code, sized, lt);
+        placed = ap (placed offset 0) split ∙ ap (λ (ps : List Placed). ps ++ placed (offset + 1) (operand_of (opcode_of byte)) behind) begun ∙ ap (λ (k : ℕ). record { offset = offset; instruction = i } ∷ placed (offset + 1) k behind) rest ∙ ap (λ (ps : List Placed). record { offset = offset; instruction = i } ∷ ps) moved;
+        whole = sym after ∙ more;
+      },
+    )
 
 pub whole_front : (count : ℕ) (code : List ℕ) (offset : ℕ) → offset < length code → code_fault count offset 0 (drop offset code) ≡ None → (i : Instruction) × Front count code offset i
 whole_front count code offset lt e =

@@ -130,9 +130,11 @@ pub steps_on : (fs : List LinkedFn) (f : LinkedFn) (s t : State) (frames : List 
 steps_on fs f s t frames V now i is at fine long above d =
     let room = fine_room fs f s.place (height f s) i fine d.3 in
     let front : take t.base now ≡ take s.base V = rw (d.4.1, d.2) (after_front i s.base f.slots V d.0 (omega (arith, room.0, long, above))) in
-    let moved = moves fs f s t V now i (seen fs (reverse frames) (take s.base V)) is at fine long above d in
-    (moved ∙ ap (λ (text : List ℕ). Goes (act f.slots t now ∷ seen fs (reverse frames) (take s.base V)) text) (prints-none i (under V 0) d.5)
-        ∙ ap (λ (all : List Act). Goes all []) (acts_same fs f t frames _ _ now (sym front)), front)
+    let moved = moves fs f s t V now i (seen fs (reverse frames) (take s.base V)) is at fine long above d in (
+      moved ∙ ap (λ (text : List ℕ). Goes (act f.slots t now ∷ seen fs (reverse frames) (take s.base V)) text) (prints-none i (under V 0) d.5)
+          ∙ ap (λ (all : List Act). Goes all []) (acts_same fs f t frames _ _ now (sym front)),
+      front,
+    )
 
 -- the words on the stack
 pub stack_long : (fs : List LinkedFn) (f : LinkedFn) (s : State) (words : List ℤ) → Stands fs f s (length words) → length (take s.top words) ≡ s.top
@@ -153,7 +155,7 @@ prints_on fs f s t frames V now i x is at fine long above d =
     let words : now ≡ take (length V - 1) V ++ [] = d.2 ∙ sym (append-nil (take (length V - 1) V)) in
     let front : take t.base now ≡ take s.base V = rw (d.3.1, d.2) (take-take s.base (length V - 1) V (omega (arith, there, long, above))) in
     let moved : step fs (acts fs f s frames V) ≡ Goes (act f.slots t now ∷ rest) (line_of (under V 0)) =
-        rw (is, at_print) (stays Print f.slots s t V now [] rest (omega (arith, there, long, above)) refl refl words d.3.0 d.3.1 d.3.3) in
+    rw (is, at_print) (stays Print f.slots s t V now [] rest (omega (arith, there, long, above)) refl refl words d.3.0 d.3.1 d.3.3) in
     (moved ∙ ap (λ (y : ℤ). Goes (act f.slots t now ∷ rest) (line_of y)) (sym d.1) ∙ ap (λ (all : List Act). Goes all (line_of x)) (acts_same fs f t frames _ _ now (sym front)), front)
 
 step_call : (fs : List LinkedFn) (f g : LinkedFn) (s : State) (V : List ℤ) (rest : List Act) (i : Instruction) (k : ℕ)
@@ -177,7 +179,7 @@ calls_on fs f g k s t frames more V now i is at called there long above enough p
     let front : take t.base now ≡ take l V = rw (base, d.words) (take-append-le l V zeros (omega (arith, long))) in
     let under_it : take s.base (take l V) ≡ take s.base V = take-take s.base l V (omega (arith, enough, above)) in
     let count : s.below + (l - (s.base + f.slots)) ≡ length (drop (s.base + slots_count (slice_get fs s.number)) (take l V)) + s.below =
-        rw is (omega (arith, length-drop (s.base + f.slots) (take l V), length-take l V, long)) in
+    rw is (omega (arith, length-drop (s.base + f.slots) (take l V), length-take l V, long)) in
     let waits : Counted fs (waiting s ∷ reverse frames) (take l V) (s.below + (l - (s.base + f.slots))) = (count, counted_same fs (reverse frames) (take s.base (take l V)) (take s.base V) s.below s.below counted under_it refl) in
     let order : reverse more ≡ waiting s ∷ reverse frames = ap reverse d.frames ∙ reverse-append frames (waiting s ∷ []) in
     (stepped, rw (order, front, below) waits)
@@ -195,7 +197,7 @@ returns_on fs f h s t frames more b V now i is at returned long above leaves spl
     let front : take b.base now ≡ take b.base (take s.base V) = rw words (take-append-le b.base (take s.base V) (drop (length V - f.«result») V) (omega (arith, length-take s.base V, room, long, above))) in
     let waits : Counted fs (b ∷ reverse more) (take s.base V) s.below = subst (λ (gs : List Frame). Counted fs gs (take s.base V) s.below) order counted in
     let stepped : step fs (act f.slots s V ∷ rest) ≡ Goes (act h.slots (resumed f s b) now ∷ seen fs (reverse more) (take b.base now)) [] =
-        rw (is, at_return) (returns fs f h s b V now (reverse more) there (omega (arith, long, above, leaves)) room words) in
+    rw (is, at_return) (returns fs f h s b V now (reverse more) there (omega (arith, long, above, leaves)) room words) in
     rw (order, state) (stepped, counted_same fs (reverse more) (take b.base now) (take b.base (take s.base V)) b.below b.below waits.1 front refl)
 
 -- the entry's return

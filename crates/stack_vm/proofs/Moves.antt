@@ -80,4 +80,3 @@ moves fs f s t V now i rest is at fine long above d =
     let r = fine_room fs f s.place (height f s) i fine d.3 in
     rw (is, at) (obey_inner fs i (act f.slots s V) rest d.3
     ∙ stays i f.slots s t V now d.0 rest (omega (arith, r.0, long, above)) r.1 d.1 d.2 d.4.0 d.4.1 d.4.3)
-

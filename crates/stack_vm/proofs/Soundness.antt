@@ -109,9 +109,9 @@ begun_fine count at o behind fine =
       long = ltb-false _ _ parts.0;
       begun = rw parts.0 refl;
       below = λ k e.
-        let call = call_number o behind k e in
-        let called : call_fault count at true number ≡ None = subst (λ (p : Opcode). call_fault count at (is_call p) number ≡ None) call.0 parts.1 in
-        omega (arith, call_below count at number called, call.1);
+          let call = call_number o behind k e in
+          let called : call_fault count at true number ≡ None = subst (λ (p : Opcode). call_fault count at (is_call p) number ≡ None) call.0 parts.1 in
+          omega (arith, call_below count at number called, call.1);
     }
 
 known : (count at : ℕ) (o : Option Opcode) (behind : List ℕ) → instruction_fault count at o behind ≡ None → (p : Opcode) × (o ≡ Some p)
@@ -205,15 +205,15 @@ head_local fs hs f all b at o bs begun whole kept look =
       leaves = kept.leaves;
       below = begun.below;
       goes = λ m handed.
-        elim (cases_lt n (length bs)) [
-          | inl more ↦
-              let there = next_here fs (next fs b p) (length fs) (at + 1) n bs whole more in
-              let same : here (next fs b p) (at + 1 + n) ≡ m = handed_here (next fs b p) (at + 1 + n) m handed in
-              ap (first_at hs) end ∙ look (at + 1 + n) (omega arith) ∙ there ∙ ap (λ (k : ℕ). Some k) same
-          | inr last ↦
-              let nothing : placed (at + 1) n bs ≡ [] = placed_all (at + 1) n bs last in
-              absurd (no_more i _ m (kept.ends (ap is_empty nothing)) handed)
-        ];
+          elim (cases_lt n (length bs)) [
+            | inl more ↦
+                let there = next_here fs (next fs b p) (length fs) (at + 1) n bs whole more in
+                let same : here (next fs b p) (at + 1 + n) ≡ m = handed_here (next fs b p) (at + 1 + n) m handed in
+                ap (first_at hs) end ∙ look (at + 1 + n) (omega arith) ∙ there ∙ ap (λ (k : ℕ). Some k) same
+            | inr last ↦
+                let nothing : placed (at + 1) n bs ≡ [] = placed_all (at + 1) n bs last in
+                absurd (no_more i _ m (kept.ends (ap is_empty nothing)) handed)
+          ];
     }
 
 -- the head of code without fault, as its parts
@@ -226,7 +226,7 @@ head_split fs hs f all base b at x bs r =
     let begun = begun_fine (length fs) at o.0 bs (subst (λ (p : Option Opcode). instruction_fault (length fs) at p bs ≡ None) o.1 parts.0) in
     let whole : code_fault (length fs) (at + 1) (row o.0).operand bs ≡ None = subst (λ (p : Option Opcode). code_fault (length fs) (at + 1) (operand_of p) bs ≡ None) o.1 parts.1 in
     let split : placed at 0 (x ∷ bs) ≡ record { offset = at; instruction = read_as o.0 bs } ∷ placed (at + 1) (row o.0).operand bs =
-        ap (λ (p : Option Opcode). begun_by at p bs ++ placed (at + 1) (operand_of p) bs) o.1 ∙ ap (λ (ps : List Placed). ps ++ placed (at + 1) (row o.0).operand bs) begun.begun in
+    ap (λ (p : Option Opcode). begun_by at p bs ++ placed (at + 1) (operand_of p) bs) o.1 ∙ ap (λ (ps : List Placed). ps ++ placed (at + 1) (row o.0).operand bs) begun.begun in
     (o.0, o.1, begun, whole, split)
 
 -- what is known of the rest is known behind its head
@@ -263,14 +263,16 @@ judged_head fs hs f all base b at x bs o r is begun whole split =
     let kept_at = kept fs hs f i (here b at) (is_crossed fs hs at all) (is_empty ps) (subst (λ (n : ℕ). word_at fs hs f i n (is_crossed fs hs at all) (is_empty ps) ≡ None) height (fault_if-none (base + at) _ judged.0)) in
     let at_code = drop_parts f.code bs at x r.is in
     let begun_code : begun_by at (opcode_of (slice_index f.code at)) (drop (at + 1) f.code) ≡ p ∷ [] =
-        ap (λ (y : ℕ). begun_by at (opcode_of y) (drop (at + 1) f.code)) at_code.1 ∙ ap (λ (q : Option Opcode). begun_by at q (drop (at + 1) f.code)) is ∙ ap (λ (ys : List ℕ). begun_by at (Some o) ys) (sym at_code.2) ∙ begun.begun in
-    (found, record {
-      instruction = i;
-      found = r.find at (omega arith) ∙ ap (λ (qs : List Placed). find_at qs at) split ∙ rw (eq-eqb at at refl) refl;
-      there = record { within = at_code.0; begun = begun_code };
-      local = head_local fs hs f all b at o bs begun whole kept_at behind.look;
-      same = kept_at.same;
-    })
+    ap (λ (y : ℕ). begun_by at (opcode_of y) (drop (at + 1) f.code)) at_code.1 ∙ ap (λ (q : Option Opcode). begun_by at q (drop (at + 1) f.code)) is ∙ ap (λ (ys : List ℕ). begun_by at (Some o) ys) (sym at_code.2) ∙ begun.begun in (
+      found,
+      record {
+        instruction = i;
+        found = r.find at (omega arith) ∙ ap (λ (qs : List Placed). find_at qs at) split ∙ rw (eq-eqb at at refl) refl;
+        there = record { within = at_code.0; begun = begun_code };
+        local = head_local fs hs f all b at o bs begun whole kept_at behind.look;
+        same = kept_at.same;
+      },
+    )
 
 -- each offset with a height has a judged instruction
 every : (fs : List LinkedFn) (hs : List (ℕ × ℕ)) (f : LinkedFn) (all : List Placed) (base : ℕ) (b : Before) (at k : ℕ) (bytes : List ℕ) → Rest fs hs f all base b at k bytes
@@ -281,13 +283,13 @@ every fs hs f all base b at (suc k) (x ∷ bs) r t h le e =
     elim (cases_eq at t) [
       | inl here_it ↦ absurd (let none = r.look t le ∙ heights_high fs b (at + 1) k bs t (omega arith) in cc)
       | inr other ↦ every fs hs f all base b (at + 1) k bs (record {
-          whole = r.whole;
-          short = omega (arith, r.short);
-          is = (drop_parts f.code bs at x r.is).2;
-          look = λ u lt. r.look u (omega arith);
-          find = λ u lt. r.find u (omega arith);
-          none = r.none;
-        }) t h (omega (arith, other)) e
+        whole = r.whole;
+        short = omega (arith, r.short);
+        is = (drop_parts f.code bs at x r.is).2;
+        look = λ u lt. r.look u (omega arith);
+        find = λ u lt. r.find u (omega arith);
+        none = r.none;
+      }) t h (omega (arith, other)) e
     ]
 every fs hs f all base b at zero (x ∷ bs) r t h le e =
     let o = head_split fs hs f all base b at x bs r in
@@ -315,7 +317,7 @@ crossed_by fs hs t place (p ∷ ps) i c e =
           let same : p.instruction ≡ i = cc in
           let place_is : p.offset ≡ place = eqb-true p.offset place here_it in
           subst (λ (n : ℕ). brings_other (jumps_to i) (left_by fs i (height_at hs n)) (first_at hs t) t ≡ false) place_is
-            (subst (λ (j : Instruction). brings_other (jumps_to j) (left_by fs j (height_at hs p.offset)) (first_at hs t) t ≡ false) same parts.0)
+          (subst (λ (j : Instruction). brings_other (jumps_to j) (left_by fs j (height_at hs p.offset)) (first_at hs t) t ≡ false) same parts.0)
       | inr later ↦ crossed_by fs hs t place ps i parts.1 (rw later at e)
     ]
 
@@ -333,9 +335,9 @@ target_height fs hs f all place h to j each e jumps =
     let crossed = crossed_by fs hs to place all i at_target.same j.found in
     let height : height_at hs place ≡ h = ap (λ (o : Option ℕ). unwrap_or o 0) e in
     let here_is : brings_other (Some to) (left_by fs i h) (Some there.0) to ≡ false =
-        subst (λ (o : Option ℕ). brings_other (Some to) (left_by fs i h) o to ≡ false) there.1
-          (subst (λ (o : Option ℕ). brings_other o (left_by fs i h) (first_at hs to) to ≡ false) jumps
-            (subst (λ (n : ℕ). brings_other (jumps_to i) (left_by fs i n) (first_at hs to) to ≡ false) height crossed)) in
+    subst (λ (o : Option ℕ). brings_other (Some to) (left_by fs i h) o to ≡ false) there.1
+    (subst (λ (o : Option ℕ). brings_other o (left_by fs i h) (first_at hs to) to ≡ false) jumps
+    (subst (λ (n : ℕ). brings_other (jumps_to i) (left_by fs i n) (first_at hs to) to ≡ false) height crossed)) in
     there.1 ∙ ap (λ (n : ℕ). Some n) (sym (brought_same to (left_by fs i h) there.0 here_is))
 
 -- ---- from what is kept to what the machine needs
@@ -379,10 +381,13 @@ fine_of fs f place h (Jump to) l t = let z : (h - 0) + 0 ≡ h = omega arith in 
 fine_of fs f place h (JumpZero to) l t =
     let z : (h - 1) + 0 ≡ h - 1 = omega arith in
     (l.words, subst (λ (n : ℕ). At fs f to n) z (t.leads to refl), subst (λ (n : ℕ). At fs f (place + 5) n) z (goes_at fs f place (place + 5) h _ (JumpZero to) l refl refl))
-fine_of fs f place h (Call k) l t = (l.below k refl, λ g is.
-    let takes_is : taken fs (Call k) ≡ g.params = rw is refl in
-    let left_is : left_by fs (Call k) h ≡ (h - g.params) + g.«result» = rw is refl in
-    record { there = omega (arith, l.words, takes_is); next = goes_at fs f place (place + 5) h _ (Call k) l refl (ap (λ (n : ℕ). Some n) left_is) })
+fine_of fs f place h (Call k) l t = (
+  l.below k refl,
+  λ g is.
+      let takes_is : taken fs (Call k) ≡ g.params = rw is refl in
+      let left_is : left_by fs (Call k) h ≡ (h - g.params) + g.«result» = rw is refl in
+      record { there = omega (arith, l.words, takes_is); next = goes_at fs f place (place + 5) h _ (Call k) l refl (ap (λ (n : ℕ). Some n) left_is) },
+)
 fine_of fs f place h Return l t = l.leaves refl
 fine_of fs f place h Trap l t = tt
 
@@ -392,12 +397,13 @@ function_parts : (fs : List LinkedFn) (at : ℕ) (f : LinkedFn) → function_fau
     → (f.params ≤ f.slots) × (length f.code ≡ 0 → ⊥) × (code_faults fs (heights_of fs f.code) f (instructions f.code) (at + 5) (instructions f.code) ≡ None)
 unfolding function_fault
 function_parts fs at f e = parts (ltb f.slots f.params) (eqb (length f.code) 0) refl refl e
-  where parts : (a b : Bool) → ltb f.slots f.params ≡ a → eqb (length f.code) 0 ≡ b
-            → cond a (Some (record { at = at + 2; what = word.Slots })) (cond b (Some (record { at = at + 5; what = word.End })) (code_faults fs (heights_of fs f.code) f (instructions f.code) (at + 5) (instructions f.code))) ≡ None
-            → (f.params ≤ f.slots) × (length f.code ≡ 0 → ⊥) × (code_faults fs (heights_of fs f.code) f (instructions f.code) (at + 5) (instructions f.code) ≡ None)
-        parts true b p q e = absurd cc
-        parts false true p q e = absurd cc
-        parts false false p q e = (ltb-false _ _ p, λ z. absurd (let is = eq-eqb (length f.code) 0 z in cc), e)
+  where
+    parts : (a b : Bool) → ltb f.slots f.params ≡ a → eqb (length f.code) 0 ≡ b
+        → cond a (Some (record { at = at + 2; what = word.Slots })) (cond b (Some (record { at = at + 5; what = word.End })) (code_faults fs (heights_of fs f.code) f (instructions f.code) (at + 5) (instructions f.code))) ≡ None
+        → (f.params ≤ f.slots) × (length f.code ≡ 0 → ⊥) × (code_faults fs (heights_of fs f.code) f (instructions f.code) (at + 5) (instructions f.code) ≡ None)
+    parts true b p q e = absurd cc
+    parts false true p q e = absurd cc
+    parts false false p q e = (ltb-false _ _ p, λ z. absurd (let is = eq-eqb (length f.code) 0 z in cc), e)
 
 pub sound_function : (fs : List LinkedFn) (at : ℕ) (f : LinkedFn) → function_fault fs at f ≡ None → IsLinkedCode (length fs) f.code → IsSound fs f
 unfolding heights_of instructions
@@ -419,10 +425,12 @@ sound_function fs at f e linked =
       start = record { has = next_here fs at_start (length fs) 0 0 f.code whole (omega (arith, parts.1)) };
       params = parts.0;
       each = λ place h a.
-        let j = each place h a.has in
-        (j.instruction, record {
-          at = j.found;
-          there = j.there;
-          fine = fine_of fs f place h j.instruction j.local (record { leads = λ to jumps. record { has = target_height fs hs f all place h to j each a.has jumps } });
-        });
+          let j = each place h a.has in (
+            j.instruction,
+            record {
+              at = j.found;
+              there = j.there;
+              fine = fine_of fs f place h j.instruction j.local (record { leads = λ to jumps. record { has = target_height fs hs f all place h to j each a.has jumps } });
+            },
+          );
     }

@@ -91,12 +91,12 @@ traps fs f s V i rest kind is at fine long above err =
     let S : List ℤ = take f.slots (drop s.base V) in
     let many : length os ≡ length V - m = length-drop m V in
     let sm : Same i s.place S (drop s.base V) (under os 1) (under V 1) (under os 0) (under V 0) =
-      same i s.place S (drop s.base V) (under os 1) (under V 1) (under os 0) (under V 0) (λ k e. get_or-take f.slots (drop s.base V) k (pos 0) (slot_low i k f.slots r.1 e)) (λ h. under_drop V m 0 (omega (arith, r.0, long))) (λ h. under_drop V m 1 (omega (arith, r.0, long))) in
+    same i s.place S (drop s.base V) (under os 1) (under V 1) (under os 0) (under V 0) (λ k e. get_or-take f.slots (drop s.base V) k (pos 0) (slot_low i k f.slots r.1 e)) (λ h. under_drop V m 0 (omega (arith, r.0, long))) (λ h. under_drop V m 1 (omega (arith, r.0, long))) in
     let le : nat_le (takes i) (length os) ≡ true = enough (takes i) (length os) (omega (arith, r.0, many, long)) in
     let all : length S ≡ f.slots = omega (arith, length-take f.slots (drop s.base V), length-drop s.base V, long, above) in
     let hs : has_slot i (length S) ≡ true = subst (λ (k : ℕ). has_slot i k ≡ true) (sym all) r.1 in
     rw (is, at) (obey_inner fs i (act f.slots s V) rest inner
-      ∙ (chosen _ _ _ _ le hs ∙ ap (λ (x : Result (List ℤ) Kind). pushing i (act f.slots s V) rest x) (sm.pushed ∙ err)))
+    ∙ (chosen _ _ _ _ le hs ∙ ap (λ (x : Result (List ℤ) Kind). pushing i (act f.slots s V) rest x) (sm.pushed ∙ err)))
 
 over : (n m : ℕ) → n < m → nat_lt n m ≡ true
 over n m h = grind (arith, nat_tests)
@@ -116,6 +116,7 @@ too_deep fs f g k s V old long room below deep =
     let many : length os ≡ length V - m = length-drop m V in
     let count : length rest ≡ length old = length-seen fs (reverse old) (take s.base V) ∙ length-reverse old in
     second _ _ _ _ _ _ (no_test (length os) g.params (omega (arith, many, room)))
-      (elim deep [
-          inl d ↦ inl (over 9999 (length rest + 1) (omega (arith, count, d)))
-        | inr d ↦ inr (over 1048576 (((length os - g.params) + words_of rest) + greatest_of fs g) (omega (arith, d, below, many, long))) ])
+    (elim deep [
+      | inl d ↦ inl (over 9999 (length rest + 1) (omega (arith, count, d)))
+      | inr d ↦ inr (over 1048576 (((length os - g.params) + words_of rest) + greatest_of fs g) (omega (arith, d, below, many, long)))
+    ])

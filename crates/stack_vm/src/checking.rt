@@ -95,10 +95,16 @@ pub fn check(
 {
     let code = function.code();
     if function.slots() < function.params() {
-        return Err(OrMemory::Refused(BadFile { at: at + 2, what: What::Slots }));
+        return Err(OrMemory::Refused(BadFile {
+            at: at + 2,
+            what: What::Slots,
+        }));
     }
     if code.is_empty() {
-        return Err(OrMemory::Refused(BadFile { at: at + 5, what: What::End }));
+        return Err(OrMemory::Refused(BadFile {
+            at: at + 5,
+            what: What::End,
+        }));
     }
     list(&mut scratch.listed, code)?;
     refill(&mut scratch.brought, code.len())?;

@@ -19,7 +19,11 @@ pub enum End {
     /// The entry returned.
     Ended,
     /// An instruction trapped, the one at this offset of this function's code.
-    Trapped { kind: Kind, function: u32, offset: u32 },
+    Trapped {
+        kind: Kind,
+        function: u32,
+        offset: u32,
+    },
     /// The steps did not end it.
     OutOfSteps,
     /// A put failed.

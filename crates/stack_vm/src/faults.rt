@@ -111,7 +111,10 @@ pub fn first(
             index + 1 == listed.len(),
         );
         if let Some(what) = what {
-            return Some(BadFile { at: at + u64::from(placed.offset), what });
+            return Some(BadFile {
+                at: at + u64::from(placed.offset),
+                what,
+            });
         }
     }
     None

@@ -30,3 +30,6 @@ pub use putting::{Putting, put_all};
 pub use sink::{Put, Sink};
 pub use std_sink::StdSink;
 pub use valid::{Valid, run, validate};
+
+#[cfg(test)]
+mod tests;

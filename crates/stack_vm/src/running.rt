@@ -14,8 +14,8 @@ ghost use Rattle.stack_vm.specs.Running.{acts, Counted, Keeps, WorkLeaves, RunLe
 ghost use Rattle.stack_vm.specs.SinkState.{SinkState, with_text};
 
 use crate::Sink;
-use crate::end::{End, Kind};
 use crate::copies::clear;
+use crate::end::{End, Kind};
 use crate::machine::{Frame, MOST_WORDS, Next, State, TEXT_ROOM, call, greatest_at, leave, step};
 use crate::putting::{Putting, put_all};
 use itoa::Buffer;
@@ -110,8 +110,7 @@ fn work<S: Sink>(
         match step(functions, function, code, words, state) {
             Next::Went(next) => state = next,
             Next::Call(callee) => {
-                let Some(next) =
-                    call(functions, greatest, function, callee, words, frames, state)
+                let Some(next) = call(functions, greatest, function, callee, words, frames, state)
                 else {
                     return trapped(Kind::Depth, state);
                 };
@@ -194,6 +193,8 @@ pub fn run_from<S: Sink>(
         top,
         below: 0,
     };
-    let end = work(alloc, functions, greatest, start, words, frames, text, steps, sink);
+    let end = work(
+        alloc, functions, greatest, start, words, frames, text, steps, sink,
+    );
     finish(alloc, sink, text.as_slice(), end)
 }

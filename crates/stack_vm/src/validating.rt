@@ -20,7 +20,10 @@ pub fn entry_fault(image: &Image) -> Option<BadFile>
     if entry.params() == 0 && entry.result() == 0 {
         None
     } else {
-        Some(BadFile { at: 6, what: What::Entry })
+        Some(BadFile {
+            at: 6,
+            what: What::Entry,
+        })
     }
 }
 

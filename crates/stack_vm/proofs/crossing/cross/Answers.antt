@@ -26,11 +26,11 @@ loop-placed-preserved c =
     record {
       long = omega (arith, c.loop-placed.invariant.long);
       seen = λ pairs shown t h.
-        let height = c.height_of-height.ensures pairs _ shown (omega arith) in
-        let left : c.leaves-left.result ≡ left_by fs p.instruction (height_at pairs p.offset) = c.leaves-left.ensures.left ∙ ap (λ (n : ℕ). left_by fs p.instruction n) height.0 in
-        c.note.ensures pairs _ shown (omega arith) t (omega (arith, c.loop-placed.invariant.long, h))
-        ∙ (ap (λ (b : Bool). b || brings_other (jumps_to p.instruction) c.leaves-left.result (first_at pairs t) t) (c.loop-placed.invariant.seen pairs shown t h)
-        ∙ (ap (λ (n : ℕ). is_crossed fs pairs t (take place all) || brings_other (jumps_to p.instruction) n (first_at pairs t) t) left
-        ∙ (sym (crossed_more fs pairs t (take place all) p)
-        ∙ ap (λ (xs : List Placed). is_crossed fs pairs t xs) (sym front))));
+          let height = c.height_of-height.ensures pairs _ shown (omega arith) in
+          let left : c.leaves-left.result ≡ left_by fs p.instruction (height_at pairs p.offset) = c.leaves-left.ensures.left ∙ ap (λ (n : ℕ). left_by fs p.instruction n) height.0 in
+          c.note.ensures pairs _ shown (omega arith) t (omega (arith, c.loop-placed.invariant.long, h))
+          ∙ (ap (λ (b : Bool). b || brings_other (jumps_to p.instruction) c.leaves-left.result (first_at pairs t) t) (c.loop-placed.invariant.seen pairs shown t h)
+          ∙ (ap (λ (n : ℕ). is_crossed fs pairs t (take place all) || brings_other (jumps_to p.instruction) n (first_at pairs t) t) left
+          ∙ (sym (crossed_more fs pairs t (take place all) p)
+          ∙ ap (λ (xs : List Placed). is_crossed fs pairs t xs) (sym front))));
     }

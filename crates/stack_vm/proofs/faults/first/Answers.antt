@@ -28,10 +28,10 @@ returns-in-Some c = λ pairs shown within noted.
     let noted_one = slice_index_or c.args.crossed.now p.offset false in
     let at_end = eqb (index + 1) (length all) in
     let word : c.word-what.result ≡ word_of fs pairs f all index p =
-        c.word-what.ensures pairs lost
-        ∙ ap (λ (n : ℕ). word_at fs pairs f p.instruction n noted_one at_end) height.0
-        ∙ ap (λ (b : Bool). word_at fs pairs f p.instruction (height_at pairs p.offset) b at_end) crossed
-        ∙ ap (λ (b : Bool). word_at fs pairs f p.instruction (height_at pairs p.offset) (is_crossed fs pairs p.offset all) b) last in
+    c.word-what.ensures pairs lost
+    ∙ ap (λ (n : ℕ). word_at fs pairs f p.instruction n noted_one at_end) height.0
+    ∙ ap (λ (b : Bool). word_at fs pairs f p.instruction (height_at pairs p.offset) b at_end) crossed
+    ∙ ap (λ (b : Bool). word_at fs pairs f p.instruction (height_at pairs p.offset) (is_crossed fs pairs p.offset all) b) last in
     let here = code_faults-at fs pairs f all c.args.at index nothing lt in
     let later = code_faults fs pairs f all c.args.at (drop (index + 1) all) in
     let is : word_of fs pairs f all index p ≡ Some c.in-Some.what = sym word ∙ c.in-Some.is in
@@ -56,10 +56,10 @@ loop-index-preserved c = λ pairs shown within noted.
     let noted_one = slice_index_or c.args.crossed.now p.offset false in
     let at_end = eqb (index + 1) (length all) in
     let word : c.word-what.result ≡ word_of fs pairs f all index p =
-        c.word-what.ensures pairs lost
-        ∙ ap (λ (n : ℕ). word_at fs pairs f p.instruction n noted_one at_end) height.0
-        ∙ ap (λ (b : Bool). word_at fs pairs f p.instruction (height_at pairs p.offset) b at_end) crossed
-        ∙ ap (λ (b : Bool). word_at fs pairs f p.instruction (height_at pairs p.offset) (is_crossed fs pairs p.offset all) b) last in
+    c.word-what.ensures pairs lost
+    ∙ ap (λ (n : ℕ). word_at fs pairs f p.instruction n noted_one at_end) height.0
+    ∙ ap (λ (b : Bool). word_at fs pairs f p.instruction (height_at pairs p.offset) b at_end) crossed
+    ∙ ap (λ (b : Bool). word_at fs pairs f p.instruction (height_at pairs p.offset) (is_crossed fs pairs p.offset all) b) last in
     let here = code_faults-at fs pairs f all c.args.at index nothing lt in
     let later = code_faults fs pairs f all c.args.at (drop (index + 1) all) in
     let is : word_of fs pairs f all index p ≡ None = sym word ∙ c.in_default.is in
