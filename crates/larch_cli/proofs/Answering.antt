@@ -1,19 +1,25 @@
 -- Why a call that meets no fault gives the answer.
-use Rattle.std.proofs.Common.{◌≡◌, ◌≢◌, inl, inr, ℕ, ℤ, Bool, true, false, cond, List, [], Option, Some, None, IfSome, IsSome, refl, sym, ap, ◌∙◌, subst}
-use Rattle.std.specs.Option.{option_and_then}
-use Rattle.std.specs.FinMap.{get}
+use Rattle.std.proofs.Common.{◌≡◌, ◌≢◌, ◌⊎◌, inl, inr, ℕ, ℤ, List, [], Option, Some, None, Result, Ok, Err, IfSome, IsSome, refl, sym, ap, ◌∙◌, subst}
+use Rattle.std.specs.Option.{option_and_then, option_map}
+use Rattle.std.specs.FinMap.{get, insert}
 use Rattle.outside.specs.Counts.{Rose}
 use Rattle.outside.specs.Held.{Held, stored}
+use Rattle.stack_vm.specs.SinkState.{SinkState, with_text}
+use Rattle.stack_vm.specs.declared.end.End.{End}
+use Rattle.stack_vm.specs.declared.end.End.TheVariants as end
+use Rattle.stack_vm.proofs.Texts.{append_known-nil}
+use Rattle.larch_cli.proofs.Counting.{sink_rose}
 use Rattle.larch_cli.specs.FilesState.{FilesState}
-use Rattle.larch_cli.specs.SinkState.{SinkState, with_text}
 use Rattle.larch_cli.specs.Status.{line_of}
-use Rattle.larch_cli.specs.Words.{is_build, source_name, image_name}
-use Rattle.larch_cli.specs.Build.{accepted, numbers_in, image_of, summary, Builds, BuildEnds}
+use Rattle.larch_cli.specs.Words.{command_of, source_name, image_name}
+use Rattle.larch_cli.specs.Build.{accepted, numbers_in, image_of, summary, AreNumbersIn, Builds, ReadFails, WriteFails, BuildEnds, after_reading}
+use Rattle.larch_cli.specs.Run.{valid_image, image_in, Ended, RunEnds}
 use Rattle.larch_cli.specs.Report.{Reported}
-use Rattle.larch_cli.specs.Plain.{Outside, CommandEnds, PlainEnds, Answer, refused, printed, built, answer_to, IsCalm, Gave, Answered}
+use Rattle.larch_cli.specs.Plain.{Outside, NotServed, CommandEnds, PlainEnds, Answer, refused, printed, built, status_at, ran, run_of_file, answer_of, answer_to, IsCalm, Gave, Answered}
+use Rattle.larch_cli.specs.declared.words.Command.{Command}
+use Rattle.larch_cli.specs.declared.words.Command.TheVariants.{Build, Run}
 use Rattle.larch_cli.specs.declared.status.Status.{Status}
-use Rattle.larch_cli.specs.declared.status.Status.TheVariants.{Done, Usage, Absent, FileFault, SinkFault, Memory, Unsupported}
-use Rattle.larch_cli.proofs.Texts.{append_known-nil}
+use Rattle.larch_cli.specs.declared.status.Status.TheVariants.{Done, Usage, Absent, FileFault, SinkFault, Memory, BadFile, Trapped, OutOfSteps, Unsupported}
 
 if_some : (told : Option Held) (P : Held → Type 0) → ((held : Held) → told ≡ Some held → P held) → IfSome told P
 if_some None P h = tt
@@ -53,10 +59,6 @@ done_came held files files_now out out_now told b put =
       files = ap (λ (f : FilesState). f.held) b.now ∙ ap (stored image_name (image_of b.numbers)) told;
     })
 
--- the answer by whether the words are served
-abbrev answer_by : Bool → Held → Answer
-answer_by b held = cond b (built (get held source_name) held) (refused Usage held)
-
 build_came : (held : Held) (files files_now : FilesState) (out out_now : SinkState) (status : Status) → files.held ≡ Some held → ¬ Rose files.faults files_now.faults → ¬ Rose out.faults out_now.faults → status ≢ Memory
     → BuildEnds files files_now out out_now status → Came (built (get held source_name) held) files_now out out_now status
 build_came held files files_now out out_now Done told calm quiet other h = done_came held files files_now out out_now told h.0 h.1
@@ -70,30 +72,73 @@ build_came held files files_now out out_now (FileFault name) told calm quiet oth
 build_came held files files_now out out_now (FileFault name) told calm quiet other (inr w, same) = absurd (calm w.1.rose)
 build_came held files files_now out out_now SinkFault told calm quiet other h = absurd (quiet h.1)
 build_came held files files_now out out_now Memory told calm quiet other h = absurd (other refl)
+build_came held files files_now out out_now (BadFile name fault) told calm quiet other h = absurd h
+build_came held files files_now out out_now (Trapped kind function offset) told calm quiet other h = absurd h
+build_came held files files_now out out_now OutOfSteps told calm quiet other h = absurd h
 build_came held files files_now out out_now Unsupported told calm quiet other h =
     let none = told_some files.held held (λ m. IsSome (get m source_name) × (numbers_in m ≡ None)) told h.0 in
     subst (λ a. Came a files_now out out_now Unsupported) (sym (built_none (get held source_name) held none.0 none.1))
     (refused_came Unsupported held files files_now out out_now (ap (λ (f : FilesState). f.held) h.1) told h.2)
 
-command_came : (b : Bool) (held : Held) (files files_now : FilesState) (out out_now : SinkState) (status : Status) → files.held ≡ Some held → ¬ Rose files.faults files_now.faults → ¬ Rose out.faults out_now.faults → status ≢ Memory
-    → CommandEnds b files files_now out out_now status → Came (answer_by b held) files_now out out_now status
-command_came true held files files_now out out_now status told calm quiet other h = build_came held files files_now out out_now status told calm quiet other h
-command_came false held files files_now out out_now status told calm quiet other h =
-    subst (λ s. Came (refused Usage held) files_now out out_now s) (sym h.0) (refused_came Usage held files files_now out out_now (ap (λ (f : FilesState). f.held) h.1) told h.2)
+-- a run that ended so
+ended_came : (name : List ℕ) (steps : ℕ) (held : Held) (files files_now : FilesState) (out out_now : SinkState) (how : End) → files.held ≡ Some held → Ended name steps files files_now out out_now how
+    → Came (run_of_file name steps (image_in held name) held) files_now out out_now (status_at how)
+ended_came name steps held files files_now out out_now how told e =
+    let image = e.gives.image in
+    let is = told_some files.held held (λ h. image_in h name ≡ Some (Ok image)) told e.gives.loaded.0 in
+    let answer = ap (λ o. run_of_file name steps o held) is ∙ ap (λ r. ran r held) e.gives.gives in
+    subst (λ a. Came a files_now out out_now (status_at how)) (sym answer) (record {
+      came = refl;
+      line = refl;
+      took = e.put;
+      files = ap (λ (f : FilesState). f.held) e.gives.loaded.1 ∙ told;
+    })
 
-sink_rose : (b : Bool) (files files_now : FilesState) (out out_now : SinkState) → CommandEnds b files files_now out out_now SinkFault → Rose out.faults out_now.faults
-sink_rose true files files_now out out_now h = h.1
-sink_rose false files files_now out out_now h = absurd (usage_is_none h.0)
-  where
-    usage_is_none : SinkFault ≡ Usage → ⊥
-    usage_is_none e = cc
+run_came : (name : List ℕ) (steps : ℕ) (held : Held) (files files_now : FilesState) (out out_now : SinkState) (status : Status) → files.held ≡ Some held → ¬ Rose files.faults files_now.faults → ¬ Rose out.faults out_now.faults → status ≢ Memory
+    → RunEnds name steps files files_now out out_now status → Came (run_of_file name steps (image_in held name) held) files_now out out_now status
+run_came name steps held files files_now out out_now Done told calm quiet other h = ended_came name steps held files files_now out out_now end.Ended told h
+run_came name steps held files files_now out out_now Usage told calm quiet other h = absurd h
+run_came name steps held files files_now out out_now (Absent n) told calm quiet other (load, same) =
+    let none = told_some files.held held (λ m. get m name ≡ None) told load.1 in
+    subst (λ k. Came (run_of_file name steps (image_in held name) held) files_now out out_now (Absent k)) (sym load.0)
+    (subst (λ a. Came a files_now out out_now (Absent name)) (sym (ap (λ o. run_of_file name steps (option_map valid_image o) held) none))
+    (refused_came (Absent name) held files files_now out out_now (ap (λ (f : FilesState). f.held) load.2) told same))
+run_came name steps held files files_now out out_now (FileFault n) told calm quiet other (load, same) = absurd (calm load.1)
+run_came name steps held files files_now out out_now SinkFault told calm quiet other h = absurd (quiet h.0)
+run_came name steps held files files_now out out_now Memory told calm quiet other h = absurd (other refl)
+run_came name steps held files files_now out out_now (BadFile n fault) told calm quiet other (load, same) =
+    let bad = told_some files.held held (λ m. image_in m name ≡ Some (Err fault)) told load.1 in
+    subst (λ k. Came (run_of_file name steps (image_in held name) held) files_now out out_now (BadFile k fault)) (sym load.0)
+    (subst (λ a. Came a files_now out out_now (BadFile name fault)) (sym (ap (λ o. run_of_file name steps o held) bad))
+    (refused_came (BadFile name fault) held files files_now out out_now (ap (λ (f : FilesState). f.held) load.2) told same))
+run_came name steps held files files_now out out_now (Trapped kind function offset) told calm quiet other h = ended_came name steps held files files_now out out_now (end.Trapped kind function offset) told h
+run_came name steps held files files_now out out_now OutOfSteps told calm quiet other h = ended_came name steps held files files_now out out_now end.OutOfSteps told h
+run_came name steps held files files_now out out_now Unsupported told calm quiet other h = absurd h
+
+not_served : (held : Held) (files files_now : FilesState) (out out_now : SinkState) (status : Status) → files.held ≡ Some held → status ≢ Memory → NotServed files files_now out out_now status → Came (refused Usage held) files_now out out_now status
+not_served held files files_now out out_now Done told other h = absurd h
+not_served held files files_now out out_now Usage told other h = refused_came Usage held files files_now out out_now (ap (λ (f : FilesState). f.held) h.0) told h.1
+not_served held files files_now out out_now (Absent name) told other h = absurd h
+not_served held files files_now out out_now (FileFault name) told other h = absurd h
+not_served held files files_now out out_now SinkFault told other h = absurd h
+not_served held files files_now out out_now Memory told other h = absurd (other refl)
+not_served held files files_now out out_now (BadFile name fault) told other h = absurd h
+not_served held files files_now out out_now (Trapped kind function offset) told other h = absurd h
+not_served held files files_now out out_now OutOfSteps told other h = absurd h
+not_served held files files_now out out_now Unsupported told other h = absurd h
+
+command_came : (command : Option Command) (held : Held) (files files_now : FilesState) (out out_now : SinkState) (status : Status) → files.held ≡ Some held → ¬ Rose files.faults files_now.faults → ¬ Rose out.faults out_now.faults → status ≢ Memory
+    → CommandEnds command files files_now out out_now status → Came (answer_of command held) files_now out out_now status
+command_came None held files files_now out out_now status told calm quiet other h = not_served held files files_now out out_now status told other h
+command_came (Some Build) held files files_now out out_now status told calm quiet other h = build_came held files files_now out out_now status told calm quiet other h
+command_came (Some (Run name steps)) held files files_now out out_now status told calm quiet other h = run_came name steps held files files_now out out_now status told calm quiet other h
 
 -- a status that was reported as it is
 plainly : (words : List (List ℕ)) (before now : Outside) (answer : Status) (e : PlainEnds words before now answer) → answer ≢ Memory → (answer ≡ e.wanted) × (now.err ≡ with_text (line_of e.wanted) before.err)
     → IfSome before.files.held (λ held. IsCalm before now → Gave (answer_to words held) before now answer)
 plainly words before now answer e other report = if_some before.files.held _ (λ held told calm.
-    let command = subst (λ s. CommandEnds (is_build words) before.files now.files before.out now.out s) (sym report.0) e.command in
-    let came = command_came (is_build words) held before.files now.files before.out now.out answer told calm.files calm.out other command in
+    let command = subst (λ s. CommandEnds (command_of words) before.files now.files before.out now.out s) (sym report.0) e.command in
+    let came = command_came (command_of words) held before.files now.files before.out now.out answer told calm.files calm.out other command in
     record {
       status = came.came;
       out = came.took;
@@ -101,8 +146,8 @@ plainly words before now answer e other report = if_some before.files.held _ (λ
       files = came.files;
     })
 
-faulty : (words : List (List ℕ)) (before now : Outside) (wanted : Status) → CommandEnds (is_build words) before.files now.files before.out now.out wanted → Reported before.err now.err wanted SinkFault → IsCalm before now → ⊥
-faulty words before now wanted command (inl r) calm = calm.out (sink_rose (is_build words) before.files now.files before.out now.out (subst (λ s. CommandEnds (is_build words) before.files now.files before.out now.out s) r.0 command))
+faulty : (words : List (List ℕ)) (before now : Outside) (wanted : Status) → CommandEnds (command_of words) before.files now.files before.out now.out wanted → Reported before.err now.err wanted SinkFault → IsCalm before now → ⊥
+faulty words before now wanted command (inl r) calm = calm.out (sink_rose (command_of words) before.files now.files before.out now.out (subst (λ s. CommandEnds (command_of words) before.files now.files before.out now.out s) r.0 command))
 faulty words before now wanted command (inr r) calm = calm.err r.0
 
 pub answered : (words : List (List ℕ)) (before now : Outside) (answer : Status) → PlainEnds words before now answer → Answered words before now answer
@@ -112,4 +157,7 @@ answered words before now Done e = plainly words before now Done e (λ is. cc) e
 answered words before now Usage e = plainly words before now Usage e (λ is. cc) e.report
 answered words before now (Absent name) e = plainly words before now (Absent name) e (λ is. cc) e.report
 answered words before now (FileFault name) e = plainly words before now (FileFault name) e (λ is. cc) e.report
+answered words before now (BadFile name fault) e = plainly words before now (BadFile name fault) e (λ is. cc) e.report
+answered words before now (Trapped kind function offset) e = plainly words before now (Trapped kind function offset) e (λ is. cc) e.report
+answered words before now OutOfSteps e = plainly words before now OutOfSteps e (λ is. cc) e.report
 answered words before now Unsupported e = plainly words before now Unsupported e (λ is. cc) e.report

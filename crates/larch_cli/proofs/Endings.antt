@@ -1,13 +1,19 @@
 -- How the ends of the steps are ends of the command.
-use Rattle.std.proofs.Common.{◌≡◌, ℕ, ℤ, List, Result, Ok, Err, inl, inr, refl, ap, ◌∙◌, subst}
+use Rattle.std.proofs.Common.{◌≡◌, ℕ, ℤ, List, Result, Ok, Err, inl, inr, refl, ap, ◌∙◌, subst, Some, sym}
+use Rattle.object_format.specs.Image.{Linked}
 use Rattle.outside.specs.Held.{stored}
+use Rattle.stack_vm.specs.Acts.{runs_of}
+use Rattle.stack_vm.specs.Running.{RunLeaves}
+use Rattle.stack_vm.specs.declared.end.End.{End}
+use Rattle.stack_vm.specs.declared.end.End.TheVariants as end
 use Rattle.larch_cli.specs.FilesState.{FilesState, after_write, holding}
-use Rattle.larch_cli.specs.SinkState.{SinkState}
+use Rattle.stack_vm.specs.SinkState.{SinkState, with_text}
 use Rattle.larch_cli.specs.Words.{image_name}
 use Rattle.larch_cli.specs.Build.{AreNumbersIn, after_reading, image_of, summary, Builds, BuildEnds}
-use Rattle.larch_cli.specs.Steps.{status_of, WriteEnds, PutEnds}
+use Rattle.larch_cli.specs.Run.{LoadEnds, Ended, Began, RunEnds}
+use Rattle.larch_cli.specs.Steps.{EndEnds, status_of, WriteEnds, PutEnds}
 use Rattle.larch_cli.specs.declared.status.Status.{Status}
-use Rattle.larch_cli.specs.declared.status.Status.TheVariants.{Done, Usage, Absent, FileFault, SinkFault, Memory, Unsupported}
+use Rattle.larch_cli.specs.declared.status.Status.TheVariants.{Done, Usage, Absent, FileFault, SinkFault, Memory, BadFile, Trapped, OutOfSteps, Unsupported}
 
 written : (files now : FilesState) (out : SinkState) (numbers : List ℤ) → AreNumbersIn files.held numbers → (status : Status) → WriteEnds {T = Unit {0}} (after_reading files) now image_name (image_of numbers) (Err status) → BuildEnds files now out out status
 written files now out numbers are Done h = absurd h
@@ -17,6 +23,9 @@ written files now out numbers are (FileFault name) h = (inr (h.0, record { numbe
 written files now out numbers are SinkFault h = absurd h
 written files now out numbers are Memory (inl e) = inl (inr (inl e), refl)
 written files now out numbers are Memory (inr e) = inl (inr (inr e), refl)
+written files now out numbers are (BadFile name fault) h = absurd h
+written files now out numbers are (Trapped kind function offset) h = absurd h
+written files now out numbers are OutOfSteps h = absurd h
 written files now out numbers are Unsupported h = absurd h
 
 -- a write that did not succeed ends the command
@@ -43,4 +52,36 @@ put_ends files now out out_now built (Err (Absent name)) h = absurd h
 put_ends files now out out_now built (Err (FileFault name)) h = absurd h
 put_ends files now out out_now built (Err SinkFault) h = (built, h.0, h.1)
 put_ends files now out out_now built (Err Memory) h = inr (built, h.0, h.1)
+put_ends files now out out_now built (Err (BadFile name fault)) h = absurd h
+put_ends files now out out_now built (Err (Trapped kind function offset)) h = absurd h
+put_ends files now out out_now built (Err OutOfSteps) h = absurd h
 put_ends files now out out_now built (Err Unsupported) h = absurd h
+
+ended : (name : List ℕ) (steps : ℕ) (files now : FilesState) (out out_now : SinkState) (image : Linked) (how : End) → LoadEnds name files now (Ok image)
+    → (text : List ℕ) × (runs_of image steps ≡ Some (record { how = how; text = text })) × (out_now ≡ with_text text out) → Ended name steps files now out out_now how
+ended name steps files now out out_now image how load (text, gives, put) = record { text = text; gives = record { image = image; loaded = load; gives = gives }; put = put }
+
+-- A valid image was loaded, and its run ended so: the end is the command's.
+pub run_ends : (name : List ℕ) (steps : ℕ) (files now : FilesState) (out out_now : SinkState) (image : Linked) (how : End) (status : Status) → LoadEnds name files now (Ok image)
+    → RunLeaves (runs_of image steps) out out_now how → EndEnds how status → RunEnds name steps files now out out_now status
+run_ends name steps files now out out_now image end.Ended status load leaves is = subst (λ s. RunEnds name steps files now out out_now s) (sym is) (ended name steps files now out out_now image end.Ended load leaves)
+run_ends name steps files now out out_now image (end.Trapped kind function offset) status load leaves is =
+    subst (λ s. RunEnds name steps files now out out_now s) (sym is) (ended name steps files now out out_now image (end.Trapped kind function offset) load leaves)
+run_ends name steps files now out out_now image end.OutOfSteps status load leaves is = subst (λ s. RunEnds name steps files now out out_now s) (sym is) (ended name steps files now out out_now image end.OutOfSteps load leaves)
+run_ends name steps files now out out_now image end.WriteFault status load leaves is =
+    subst (λ s. RunEnds name steps files now out out_now s) (sym is) (leaves.0, record { image = image; loaded = load; front = leaves.1 })
+run_ends name steps files now out out_now image end.Memory status load leaves is =
+    subst (λ s. RunEnds name steps files now out out_now s) (sym is) (inr (leaves.0, record { image = image; loaded = load; front = leaves.1 }))
+
+-- An image that could not be loaded ends the command.
+pub load_ends : (name : List ℕ) (steps : ℕ) (files now : FilesState) (out : SinkState) (status : Status) → LoadEnds name files now (Err status) → RunEnds name steps files now out out status
+load_ends name steps files now out Done h = absurd h
+load_ends name steps files now out Usage h = absurd h
+load_ends name steps files now out (Absent other) h = (h, refl)
+load_ends name steps files now out (FileFault other) h = (h, refl)
+load_ends name steps files now out SinkFault h = absurd h
+load_ends name steps files now out Memory h = inl (h, refl)
+load_ends name steps files now out (BadFile other fault) h = (h, refl)
+load_ends name steps files now out (Trapped kind function offset) h = absurd h
+load_ends name steps files now out OutOfSteps h = absurd h
+load_ends name steps files now out Unsupported h = absurd h

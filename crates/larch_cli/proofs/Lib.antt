@@ -1,5 +1,5 @@
 pub mod Answering
+pub mod Counting
 pub mod Endings
 pub mod PrintsLinked
-pub mod Texts
 pub mod WholeFiles

@@ -8,11 +8,11 @@ use Rattle.outside.specs.Counts.{Rose}
 use Rattle.outside.specs.Fronts.{AppendsFront}
 use Rattle.outside.specs.Held.{Held, stored, StoresFront}
 use Rattle.larch_cli.specs.FilesState.{FilesState, after_asking, after_write, with_faults, holding}
-use Rattle.larch_cli.specs.SinkState.{SinkState, with_text}
+use Rattle.stack_vm.specs.SinkState.{SinkState, with_text}
 use Rattle.larch_cli.specs.ThinImage.{thin_image}
 use Rattle.larch_cli.specs.Words.{source_name, image_name}
 use Rattle.larch_cli.specs.declared.status.Status.{Status}
-use Rattle.larch_cli.specs.declared.status.Status.TheVariants.{Done, Usage, Absent, FileFault, SinkFault, Memory, Unsupported}
+use Rattle.larch_cli.specs.declared.status.Status.TheVariants.{Done, Usage, Absent, FileFault, SinkFault, Memory, BadFile, Trapped, OutOfSteps, Unsupported}
 
 -- the numbers of a source of at most 16,777,216 bytes in the thin form
 abbrev pub accepted : List ℕ → Option (List ℤ)
@@ -74,3 +74,6 @@ BuildEnds files files_now out out_now Unsupported = IfSome files.held (λ held. 
 BuildEnds files files_now out out_now SinkFault = Builds files files_now × Rose out.faults out_now.faults × PutsFront out out_now
 BuildEnds files files_now out out_now Memory = (StopsEarly files files_now × (out_now ≡ out)) ⊎ (Builds files files_now × (out_now.faults ≡ out.faults) × PutsFront out out_now)
 BuildEnds files files_now out out_now Usage = ⊥
+BuildEnds files files_now out out_now (BadFile name fault) = ⊥
+BuildEnds files files_now out out_now (Trapped kind function offset) = ⊥
+BuildEnds files files_now out out_now OutOfSteps = ⊥

@@ -2,14 +2,13 @@ pub use Rattle.outside.specs.CallsState
 pub use Rattle.outside.specs.Counts
 pub use Rattle.outside.specs.Fronts
 pub use Rattle.outside.specs.Held
+pub use Rattle.stack_vm.specs.SinkState
 pub mod Build
 pub mod FilesState
 pub mod MemoryFilesState
-pub mod MemorySinkState
 pub mod Plain
-pub mod Putting
 pub mod Report
-pub mod SinkState
+pub mod Run
 pub mod Status
 pub mod Steps
 pub mod ThinImage

@@ -1,16 +1,25 @@
 -- How the top call ends, and what it leaves.
-use Rattle.std.specs.Prelude.{ℕ, ◌≡◌, ◌≢◌, ◌⊎◌, if◌then◌else◌, Bool, true, false, List, [], Option, Some, None, IfSome, ℤ}
+use Rattle.std.specs.Prelude.{ℕ, ◌≡◌, ◌≢◌, ◌⊎◌, List, [], Option, Some, None, Result, Ok, Err, IfSome, ℤ}
 use Rattle.std.specs.FinMap.{get, insert}
+use Rattle.object_format.specs.Image.{Linked}
+use Rattle.object_format.specs.declared.fault.BadFile.{BadFile}
 use Rattle.outside.specs.Counts.{Rose}
 use Rattle.outside.specs.Held.{Held}
+use Rattle.stack_vm.specs.Acts.{Ran, runs_of}
+use Rattle.stack_vm.specs.SinkState.{SinkState, with_text}
+use Rattle.stack_vm.specs.declared.end.End.{End}
+use Rattle.stack_vm.specs.declared.end.End.TheVariants as end
 use Rattle.larch_cli.specs.FilesState.{FilesState}
-use Rattle.larch_cli.specs.SinkState.{SinkState, with_text}
 use Rattle.larch_cli.specs.Status.{line_of}
-use Rattle.larch_cli.specs.Words.{is_build, source_name, image_name}
+use Rattle.larch_cli.specs.Words.{command_of, source_name, image_name}
 use Rattle.larch_cli.specs.Report.{Reported}
+use Rattle.larch_cli.specs.Run.{RunEnds, image_in}
 use Rattle.larch_cli.specs.Build.{BuildEnds, accepted, image_of, summary}
+use Rattle.larch_cli.specs.declared.words.Command.{Command}
+use Rattle.larch_cli.specs.declared.words.Command.TheVariants.{Build, Run}
 use Rattle.larch_cli.specs.declared.status.Status.{Status}
-use Rattle.larch_cli.specs.declared.status.Status.TheVariants.{Done, Usage, Absent, FileFault, SinkFault, Memory, Unsupported}
+use Rattle.larch_cli.specs.declared.status.Status.TheVariants as status
+use Rattle.larch_cli.specs.declared.status.Status.TheVariants.{Done, Usage, Absent, FileFault, SinkFault, Memory, Trapped, OutOfSteps, Unsupported}
 
 -- what a call works on
 pub record Outside : Type 0 where
@@ -18,19 +27,22 @@ pub record Outside : Type 0 where
   pub out : SinkState
   pub err : SinkState
 
--- Words that are not served touch nothing.
+-- Words that are not served touch nothing. Reading the words may want memory.
 abbrev pub NotServed : FilesState → FilesState → SinkState → SinkState → Status → Type 0
-NotServed files files_now out out_now status = (status ≡ Usage) × (files_now ≡ files) × (out_now ≡ out)
+NotServed files files_now out out_now Usage = (files_now ≡ files) × (out_now ≡ out)
+NotServed files files_now out out_now Memory = (files_now ≡ files) × (out_now ≡ out)
+NotServed files files_now out out_now status = ⊥
 
 -- the command that the words name, before its status is reported
-abbrev pub CommandEnds : Bool → FilesState → FilesState → SinkState → SinkState → Status → Type 0
-CommandEnds true files files_now out out_now status = BuildEnds files files_now out out_now status
-CommandEnds false files files_now out out_now status = NotServed files files_now out out_now status
+abbrev pub CommandEnds : Option Command → FilesState → FilesState → SinkState → SinkState → Status → Type 0
+CommandEnds None files files_now out out_now status = NotServed files files_now out out_now status
+CommandEnds (Some Build) files files_now out out_now status = BuildEnds files files_now out out_now status
+CommandEnds (Some (Run name steps)) files files_now out out_now status = RunEnds name steps files files_now out out_now status
 
 -- Some status was wanted, by its cause and with what it leaves, and was reported.
 pub record PlainEnds (words : List (List ℕ)) (before now : Outside) (answer : Status) : Type 0 where
   pub wanted : Status
-  pub command : CommandEnds (is_build words) before.files now.files before.out now.out wanted
+  pub command : CommandEnds (command_of words) before.files now.files before.out now.out wanted
   pub report : Reported before.err now.err wanted answer
 
 -- what a command answers where no call of the outside fails and memory suffices: its status, what it puts, and what the files hold then
@@ -52,9 +64,36 @@ abbrev pub built : Option (List ℕ) → Held → Answer
 built None held = refused (Absent source_name) held
 built (Some bytes) held = printed (accepted bytes) held
 
+-- the status for how a run ends, which is by its entry's return, a trap or want of steps where no call of the outside fails
+abbrev pub status_at : End → Status
+status_at end.Ended = Done
+status_at (end.Trapped kind function offset) = Trapped kind function offset
+status_at end.OutOfSteps = OutOfSteps
+status_at end.WriteFault = SinkFault
+status_at end.Memory = Memory
+
+-- what a run gave; a valid image is never stuck
+abbrev pub ran : Option Ran → Held → Answer
+ran None held = refused Usage held
+ran (Some r) held = record { status = status_at r.how; out = r.text; err = line_of (status_at r.how); files = held }
+
+abbrev pub loaded : List ℕ → ℕ → Result Linked BadFile → Held → Answer
+loaded name steps (Err fault) held = refused (status.BadFile name fault) held
+loaded name steps (Ok image) held = ran (runs_of image steps) held
+
+abbrev pub run_of_file : List ℕ → ℕ → Option (Result Linked BadFile) → Held → Answer
+run_of_file name steps None held = refused (Absent name) held
+run_of_file name steps (Some image) held = loaded name steps image held
+
+-- the answer of a command over these files
+abbrev pub answer_of : Option Command → Held → Answer
+answer_of None held = refused Usage held
+answer_of (Some Build) held = built (get held source_name) held
+answer_of (Some (Run name steps)) held = run_of_file name steps (image_in held name) held
+
 -- the answer to these words over these files
 abbrev pub answer_to : List (List ℕ) → Held → Answer
-answer_to words held = if is_build words then built (get held source_name) held else refused Usage held
+answer_to words held = answer_of (command_of words) held
 
 -- no count of faults rose
 pub record IsCalm (before now : Outside) : Type 0 where
@@ -75,11 +114,11 @@ Answered words before now Memory = Unit {0}
 Answered words before now status = IfSome before.files.held (λ held. IsCalm before now → Gave (answer_to words held) before now status)
 
 -- Words that are not served are answered so, whatever the files tell; or the line could not be put, or memory was wanted.
-abbrev pub UsageOnly : Bool → Status → Type 0
-UsageOnly true status = status ≢ Usage
-UsageOnly false SinkFault = Unit {0}
-UsageOnly false Memory = Unit {0}
-UsageOnly false status = status ≡ Usage
+abbrev pub UsageOnly : Option Command → Status → Type 0
+UsageOnly (Some command) status = status ≢ Usage
+UsageOnly None SinkFault = Unit {0}
+UsageOnly None Memory = Unit {0}
+UsageOnly None status = status ≡ Usage
 
 -- The count of a stream rises at this status and at no other.
 abbrev pub SinksRose : Outside → Outside → Status → Type 0

@@ -2,7 +2,7 @@
 use Rattle.std.specs.Prelude.{◌≡◌, ◌≢◌, ◌⊎◌}
 use Rattle.outside.specs.Counts.{Rose}
 use Rattle.outside.specs.Fronts.{AppendsFront}
-use Rattle.larch_cli.specs.SinkState.{SinkState, with_text}
+use Rattle.stack_vm.specs.SinkState.{SinkState, with_text}
 use Rattle.larch_cli.specs.Status.{line_of}
 use Rattle.larch_cli.specs.declared.status.Status.{Status}
 use Rattle.larch_cli.specs.declared.status.Status.TheVariants.{SinkFault, Memory}

@@ -1,7 +1,11 @@
 -- What a status says.
 use Rattle.std.specs.Prelude.{ℕ, List, [], ◌++◌, codes}
+use Rattle.std.specs.Fmt.{decimal}
+use Rattle.object_format.specs.Words.{word_of}
+use Rattle.stack_vm.specs.declared.end.Kind.{Kind}
+use Rattle.stack_vm.specs.declared.end.Kind.TheVariants as kinds
 use Rattle.larch_cli.specs.declared.status.Status.{Status}
-use Rattle.larch_cli.specs.declared.status.Status.TheVariants.{Done, Usage, Absent, FileFault, SinkFault, Memory, Unsupported}
+use Rattle.larch_cli.specs.declared.status.Status.TheVariants.{Done, Usage, Absent, FileFault, SinkFault, Memory, BadFile, Trapped, OutOfSteps, Unsupported}
 
 -- the number with which the process ends
 abbrev pub number_of : Status → ℕ
@@ -11,7 +15,17 @@ number_of (Absent name) = 3
 number_of (FileFault name) = 4
 number_of SinkFault = 6
 number_of Memory = 8
+number_of (BadFile name fault) = 9
+number_of (Trapped kind function offset) = 11
+number_of OutOfSteps = 12
 number_of Unsupported = 13
+
+-- the word for why an instruction traps
+abbrev pub kind_word : Kind → List ℕ
+kind_word kinds.Division = codes "division"
+kind_word kinds.Overflow = codes "overflow"
+kind_word kinds.Depth = codes "depth"
+kind_word kinds.Trap = codes "trap"
 
 -- the line for the error stream
 abbrev pub line_of : Status → List ℕ
@@ -21,4 +35,7 @@ line_of (Absent name) = codes "larchc: " ++ name ++ codes ": not found\n"
 line_of (FileFault name) = codes "larchc: " ++ name ++ codes ": file fault\n"
 line_of SinkFault = []
 line_of Memory = codes "larchc: out of memory\n"
+line_of (BadFile name fault) = codes "larchc: " ++ (name ++ (codes ": bad file at " ++ (decimal fault.at ++ (codes ": " ++ (word_of fault.what ++ codes "\n")))))
+line_of (Trapped kind function offset) = codes "larchc: trap " ++ (kind_word kind ++ (codes " at " ++ (decimal function ++ (codes ":" ++ (decimal offset ++ codes "\n")))))
+line_of OutOfSteps = codes "larchc: out of steps\n"
 line_of Unsupported = codes "larchc: unsupported input\n"

@@ -7,11 +7,15 @@ use Rattle.outside.specs.Counts.{Rose}
 use Rattle.outside.specs.Fronts.{AppendsFront}
 use Rattle.outside.specs.Held.{StoresFront, stored}
 use Rattle.larch_cli.specs.FilesState.{FilesState, after_write, with_faults, holding}
-use Rattle.larch_cli.specs.SinkState.{SinkState, with_text}
+use Rattle.stack_vm.specs.SinkState.{SinkState, with_text}
 use Rattle.larch_cli.specs.Words.{source_name}
 use Rattle.larch_cli.specs.Build.{AreNumbersIn, ReadFails, after_reading, numbers_in}
+use Rattle.object_format.specs.Image.{Linked}
+use Rattle.stack_vm.specs.Valid.{Validated}
+use Rattle.stack_vm.specs.declared.end.End.{End}
+use Rattle.stack_vm.specs.declared.end.End.TheVariants as end
 use Rattle.larch_cli.specs.declared.status.Status.{Status}
-use Rattle.larch_cli.specs.declared.status.Status.TheVariants.{Done, Absent, FileFault, SinkFault, Memory, Unsupported}
+use Rattle.larch_cli.specs.declared.status.Status.TheVariants.{Done, Absent, FileFault, SinkFault, Memory, Trapped, OutOfSteps, Unsupported}
 
 -- A command that ran to its end is done.
 abbrev pub status_of : {T : Type 0} → Result T Status → Status
@@ -40,3 +44,16 @@ PutEnds out now text (Ok x) = now ≡ with_text text out
 PutEnds out now text (Err SinkFault) = Rose out.faults now.faults × AppendsFront out.held now.held text
 PutEnds out now text (Err Memory) = (now.faults ≡ out.faults) × AppendsFront out.held now.held text
 PutEnds out now text (Err status) = ⊥
+
+-- the image of what was loaded
+abbrev pub image_of_valid : Result Validated Status → Result Linked Status
+image_of_valid (Ok valid) = Ok valid.image
+image_of_valid (Err status) = Err status
+
+-- the status for how a run ends
+abbrev pub EndEnds : End → Status → Type 0
+EndEnds end.Ended status = status ≡ Done
+EndEnds (end.Trapped kind function offset) status = status ≡ Trapped kind function offset
+EndEnds end.OutOfSteps status = status ≡ OutOfSteps
+EndEnds end.WriteFault status = status ≡ SinkFault
+EndEnds end.Memory status = status ≡ Memory

@@ -3,7 +3,8 @@ ghost use Rattle.larch_cli.specs.Build.{BuildEnds};
 ghost use Rattle.larch_cli.specs.Steps.{status_of};
 
 use crate::steps::{image_bytes, put_text, read_numbers, write_file};
-use crate::{Files, Sink, Status};
+use crate::{Files, Status};
+use stack_vm::Sink;
 use std::alloc::Global;
 
 /// Builds the source `main.larch` into the image `a.lrpx`, and puts the line of units.

@@ -1,18 +1,23 @@
-//! The command line of the compiler, over files and streams that are handed in.
+//! The command line of the compiler: words, statuses, reports and commands, over files and streams that are handed in.
+//!
+//! [`larch_plain`] serves a command line. Its contract says of every status when it comes and what it leaves of the files and on
+//! the streams, whatever these are and whichever of their calls fail; and where none fails it is a function of the words
+//! and the files. Each command is a row of steps, and a step answers a value or the status that ends the command, so the order
+//! of refusals is the order of the steps.
+//!
+//! It stands on lar_syntax for the sources, object_format and stack_vm for images, and outside for what the world is to a contract.
 #![tactic(auto)]
 
 mod build;
 mod files;
 mod folder_files;
 mod image;
+mod loading;
 mod memory_files;
-mod memory_sink;
 mod plain;
-mod putting;
 mod reporting;
-mod sink;
+mod run;
 mod status;
-mod std_sink;
 mod steps;
 mod words;
 
@@ -20,13 +25,11 @@ pub use files::{Files, Read, Wrote};
 pub use folder_files::FolderFiles;
 pub use image::image_of_prints;
 pub use memory_files::MemoryFiles;
-pub use memory_sink::MemorySink;
 pub use plain::larch_plain;
-pub use putting::{Putting, put_all};
 pub use reporting::report;
-pub use sink::{Put, Sink};
 pub use status::Status;
-pub use std_sink::StdSink;
 
+#[cfg(test)]
+mod run_tests;
 #[cfg(test)]
 mod tests;

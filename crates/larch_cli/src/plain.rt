@@ -4,29 +4,46 @@
 
 ghost use Rattle.std.specs.Prelude.{◌≡◌, map, string_bytes};
 ghost use Rattle.larch_cli.specs.Plain.{CommandEnds, PlainEnds, Answered, UsageOnly, SinksRose, FilesRose};
-ghost use Rattle.larch_cli.specs.Words.{is_build};
+ghost use Rattle.larch_cli.specs.Steps.{status_of};
+ghost use Rattle.larch_cli.specs.Words.{command_of};
 
 use crate::build::build;
 use crate::reporting::report;
-use crate::words::is_build;
-use crate::{Files, Sink, Status};
+use crate::run::run_image;
+use crate::words::{Command, command_of};
+use crate::{Files, Status};
+use stack_vm::Sink;
 use std::alloc::Global;
 
 // The command that the words name, but for the line on the error stream.
-fn command<F: Files, S: Sink>(alloc: Global, words: &[String], files: &mut F, out: &mut S) -> Status
-    ensures { CommandEnds (is_build (map string_bytes words.now)) (F.told files.old) (F.told files.new) (S.told out.old) (S.told out.new) result }
+fn serve<F: Files, S: Sink>(
+    alloc: Global,
+    words: &[String],
+    files: &mut F,
+    out: &mut S,
+) -> Result<(), Status>
+    ensures { CommandEnds (command_of (map string_bytes words.now)) (F.told files.old) (F.told files.new) (S.told out.old) (S.told out.new) (status_of result) }
 {
-    if !is_build(words) {
-        return Status::Usage;
+    match command_of(alloc, words)? {
+        None => Err(Status::Usage),
+        Some(Command::Build) => build(alloc, files, out),
+        Some(Command::Run(name, steps)) => run_image(alloc, &name, steps, files, out),
     }
-    match build(alloc, files, out) {
+}
+
+// The same, with a status at every end.
+fn command<F: Files, S: Sink>(alloc: Global, words: &[String], files: &mut F, out: &mut S) -> Status
+    ensures { CommandEnds (command_of (map string_bytes words.now)) (F.told files.old) (F.told files.new) (S.told out.old) (S.told out.new) result }
+{
+    match serve(alloc, words, files, out) {
         Ok(()) => Status::Done,
         Err(status) => status,
     }
 }
 
 /// Serves a command line, given as the words behind the program's name, over the files and the streams that are handed in.
-/// So far the words `build main.larch --jobs 1` are served, and no others. It waits for nobody and always returns.
+/// So far `build main.larch --jobs 1`, `run NAME` and `run NAME --steps N` are served, and no others. It waits for nobody and
+/// always returns.
 pub fn larch_plain<F: Files, S: Sink>(
     alloc: Global,
     words: &[String],
@@ -42,7 +59,7 @@ pub fn larch_plain<F: Files, S: Sink>(
     ensures answered { Answered (map string_bytes words.now)
         (record { files = F.told files.old; out = S.told out.old; err = S.told err.old })
         (record { files = F.told files.new; out = S.told out.new; err = S.told err.new }) result }
-    ensures usage { UsageOnly (is_build (map string_bytes words.now)) result }
+    ensures usage { UsageOnly (command_of (map string_bytes words.now)) result }
     ensures sinks { SinksRose
         (record { files = F.told files.old; out = S.told out.old; err = S.told err.old })
         (record { files = F.told files.new; out = S.told out.new; err = S.told err.new }) result }

@@ -1,6 +1,7 @@
 ghost use Rattle.larch_cli.specs.Report.{Reported};
 
-use crate::{Putting, Sink, Status, put_all};
+use crate::Status;
+use stack_vm::{Putting, Sink, put_all};
 use std::alloc::Global;
 
 /// Puts the line of a status on the error stream, and answers the status that the process ends with: that status, or the

@@ -1,7 +1,10 @@
-ghost use Rattle.std.specs.Prelude.{◌≡◌, IfOk, string_bytes};
-ghost use Rattle.larch_cli.specs.Status.{line_of, number_of};
+ghost use Rattle.std.specs.Prelude.{◌≡◌, ◌++◌, IfOk, codes, string_bytes};
+ghost use Rattle.std.specs.Fmt.{decimal};
+ghost use Rattle.larch_cli.specs.Status.{kind_word, line_of, number_of};
 
 use lar_tree::Text;
+use object_format::BadFile;
+use stack_vm::Kind;
 use std::alloc::{AllocError, Global};
 
 /// How a command ended.
@@ -19,8 +22,37 @@ pub enum Status {
     SinkFault,
     /// There was no memory.
     Memory,
+    /// The file with this name is no valid image, by this first fault.
+    BadFile(Text, BadFile),
+    /// The run trapped for this reason, in this function at this offset of its code.
+    Trapped(Kind, u32, u32),
+    /// The run did not end within its steps.
+    OutOfSteps,
     /// The sources are none that can be built so far.
     Unsupported,
+}
+
+fn kind_word(kind: Kind) -> &'static str
+    ensures { result.now ≡ kind_word kind }
+{
+    match kind {
+        Kind::Division => "division",
+        Kind::Overflow => "overflow",
+        Kind::Depth => "depth",
+        Kind::Trap => "trap",
+    }
+}
+
+fn bad_file_line(alloc: Global, name: &str, at: u64, what: &str) -> Result<String, AllocError>
+    ensures { IfOk result (λ line. string_bytes line ≡ codes "larchc: " ++ (name.now ++ (codes ": bad file at " ++ (decimal at ++ (codes ": " ++ (what.now ++ codes "\n")))))) }
+{
+    format!(in alloc; "larchc: {name}: bad file at {at}: {what}\n")
+}
+
+fn trap_line(alloc: Global, kind: &str, function: u32, offset: u32) -> Result<String, AllocError>
+    ensures { IfOk result (λ line. string_bytes line ≡ codes "larchc: trap " ++ (kind.now ++ (codes " at " ++ (decimal function ++ (codes ":" ++ (decimal offset ++ codes "\n")))))) }
+{
+    format!(in alloc; "larchc: trap {kind} at {function}:{offset}\n")
 }
 
 impl Status {
@@ -35,6 +67,9 @@ impl Status {
             Status::FileFault(_) => 4,
             Status::SinkFault => 6,
             Status::Memory => 8,
+            Status::BadFile(_, _) => 9,
+            Status::Trapped(_, _, _) => 11,
+            Status::OutOfSteps => 12,
             Status::Unsupported => 13,
         }
     }
@@ -56,6 +91,13 @@ impl Status {
                 format!(in alloc; "larchc: {name}: file fault\n")
             }
             Status::Memory => format!(in alloc; "larchc: out of memory\n"),
+            Status::BadFile(name, fault) => {
+                bad_file_line(alloc, name.as_str(), fault.at, fault.what.word())
+            }
+            Status::Trapped(kind, function, offset) => {
+                trap_line(alloc, kind_word(*kind), *function, *offset)
+            }
+            Status::OutOfSteps => format!(in alloc; "larchc: out of steps\n"),
             Status::Unsupported => format!(in alloc; "larchc: unsupported input\n"),
         }
     }

@@ -6,10 +6,11 @@ ghost use Rattle.larch_cli.specs.ThinImage.{thin_image};
 ghost use Rattle.larch_cli.specs.Build.{accepted};
 ghost use Rattle.larch_cli.specs.Steps.{SourceEnds, WriteEnds, PutEnds};
 
-use crate::{Files, Putting, Read, Sink, Status, Wrote, image_of_prints, put_all};
+use crate::{Files, Read, Status, Wrote, image_of_prints};
 use lar_syntax::thin;
 use lar_tree::{Bytes, File, Text};
 use object_format::write_image;
+use stack_vm::{Putting, Sink, put_all};
 use std::alloc::{AllocError, Global};
 
 const SOURCE: &str = "main.larch";

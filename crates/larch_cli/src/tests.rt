@@ -1,5 +1,6 @@
 use super::*;
 use lar_tree::{Bytes, File, Text};
+use stack_vm::{MemorySink, Put, Sink};
 use std::alloc::{AllocError, Global};
 use std::process::Abort;
 use std::test::Fail;
@@ -299,15 +300,5 @@ fn a_folder_gives_back_what_was_written(rt: HostRuntime) -> Result<(), Fail> {
         assert_eq!(rt; read.as_slice(), wanted.as_bytes(), "at {name}");
     }
     assert_eq!(rt; files.write(alloc, ".", b""), Wrote::Failed);
-    Ok(())
-}
-
-#[test]
-fn a_stream_takes_a_piece(rt: HostRuntime) -> Result<(), Fail> {
-    let alloc = rt.alloc();
-    let mut out = StdSink::out(rt.stdout());
-    assert_eq!(rt; out.put(alloc, b""), Put::Took(0));
-    let mut err = StdSink::err(rt.stderr());
-    assert_eq!(rt; err.put(alloc, b"\n"), Put::Took(1));
     Ok(())
 }

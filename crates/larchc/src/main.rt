@@ -3,7 +3,8 @@
 //! Everything that it promises is the contract of `larch_plain`. It stands on larch_cli alone.
 #![tactic(auto)]
 
-use larch_cli::{FolderFiles, Status, StdSink, larch_plain, report};
+use larch_cli::{FolderFiles, Status, larch_plain, report};
+use stack_vm::StdSink;
 use std::alloc::AllocError;
 use std::env;
 use std::io::ErrorKind;

@@ -58,7 +58,7 @@ call_fault-below : (count at n : ℕ) (b : Bool) → (b ≡ true → n < count) 
 call_fault-below count at n false h = refl
 call_fault-below count at n true h = rw (lt-ltb n count (h refl)) refl
 
-call_below : (count at n : ℕ) → call_fault count at true n ≡ None → n < count
+pub call_below : (count at n : ℕ) → call_fault count at true n ≡ None → n < count
 call_below count at n e =
     elim (cases_Bool (ltb n count)) [
       | inl is_so ↦ ltb-true n count is_so

@@ -1,0 +1,125 @@
+-- A valid image is sound, and its run begins as the machine's does; and how the last text is put.
+use Rattle.std.proofs.Common.{◌≡◌, ◌≢◌, ℕ, zero, suc, ◌+◌, ◌-◌, ◌<◌, ◌≤◌, List, [], ◌∷◌, ◌++◌, length, take, drop, reverse, replicate, slice_get, ℤ, pos, Bool, true, false, Option, Some, None, refl, arith, sym, ◌∙◌, ap, subst, append_assoc, append-nil}
+use Rattle.std.specs.Prelude.{IfSome}
+use Rattle.std.specs.List.{AllByRecursion}
+use Rattle.std.specs.Io.KnownBytes.{append_known}
+use Rattle.std.proofs.lemmas.List.{length-take, take_all, drop_all, length-replicate}
+use Rattle.object_format.specs.Code.{IsLinkedCode}
+use Rattle.object_format.specs.Image.{LinkedFn, Linked, IsLinked, IsLinkedFn}
+use Rattle.object_format.proofs.CodeFaults.{or_later-none}
+use Rattle.outside.specs.Counts.{Rose}
+use Rattle.outside.specs.Fronts.{AppendsFront}
+use Rattle.stack_vm.specs.Heights.{greatest_of}
+use Rattle.stack_vm.specs.Faults.{function_fault, functions_fault, entry_fault, image_fault}
+use Rattle.stack_vm.specs.Sound.{At, IsSound, AllSound}
+use Rattle.stack_vm.specs.Standing.{Runs, RunsOn, Stands}
+use Rattle.stack_vm.specs.SinkState.{SinkState, with_text}
+use Rattle.stack_vm.specs.Acts.{Ran, runs, begun_at, Act}
+use Rattle.stack_vm.specs.Running.{act, acts, WorkLeaves, RunLeaves, FrontOf}
+use Rattle.stack_vm.specs.Putting.{PuttingLeaves}
+use Rattle.stack_vm.specs.declared.end.End.{End}
+use Rattle.stack_vm.specs.declared.end.End.TheVariants as end
+use Rattle.stack_vm.specs.declared.machine.State.{State}
+use Rattle.stack_vm.specs.declared.machine.Frame.{Frame}
+use Rattle.stack_vm.specs.declared.putting.Putting.TheVariants as putting
+use Rattle.stack_vm.proofs.Frames.{the_same}
+use Rattle.stack_vm.proofs.Soundness.{sound_function}
+use Rattle.stack_vm.proofs.Texts.{append_known-append}
+
+functions_sound : (fs : List LinkedFn) (at : ℕ) (gs : List LinkedFn) → functions_fault fs at gs ≡ None → AllByRecursion (λ f. IsLinkedCode (length fs) f.code) gs → (k : ℕ) (f : LinkedFn) → slice_get gs k ≡ Some f → IsSound fs f
+functions_sound fs at [] e linked k f is = absurd cc
+functions_sound fs at (g ∷ gs) e linked zero f is =
+    let parts = or_later-none _ _ e in
+    let same : g ≡ f = cc in
+    subst (IsSound fs) same (sound_function fs at g parts.0 linked.0)
+functions_sound fs at (g ∷ gs) e linked (suc k) f is =
+    let parts = or_later-none _ _ e in
+    functions_sound fs (at + 5 + length g.code) gs parts.1 linked.1 k f is
+
+-- a valid image is sound
+pub sound_image : (i : Linked) → IsLinked i → image_fault i ≡ None → AllSound i.functions
+sound_image i linked e =
+    let parts = or_later-none (entry_fault (slice_get i.functions i.entry)) (functions_fault i.functions 14 i.functions) e in
+    functions_sound i.functions 14 i.functions parts.1 linked.calls
+
+-- the state before the first step
+abbrev pub start_of : ℕ → LinkedFn → State
+start_of entry f = record { number = entry; place = 0; base = 0; top = f.slots; below = 0 }
+
+pub starts : (fs : List LinkedFn) (f : LinkedFn) (entry words capacity : ℕ) → slice_get fs entry ≡ Some f → entry < length fs → IsSound fs f → IsLinkedFn f → greatest_of fs f ≤ 1_048_576 → words ≡ 3_598_576 → 10_000 ≤ capacity
+    → RunsOn fs (start_of entry f) words [] capacity
+starts fs f entry words capacity is there sound own few long room = record {
+  there = there;
+  runs = λ h e. subst (λ (h : LinkedFn). Runs fs h (start_of entry f) words [] capacity) (the_same (slice_get fs entry) f h is e) (record {
+    is = is;
+    stands = record {
+      sound = sound;
+      own = own;
+      fits = omega arith;
+      here = subst (λ (n : ℕ). At fs f 0 n) (omega arith) sound.start;
+      above = omega arith;
+      room = omega (arith, own.slots);
+    };
+    long = long;
+    base = omega arith;
+    below = omega arith;
+    depth = omega arith;
+    room = room;
+    waits = tt;
+  });
+}
+
+abbrev begun_as : ℕ → List ℤ → List ℤ → Act
+begun_as entry slots operands = record { number = entry; place = 0; slots = slots; operands = operands }
+
+-- the words of the entry's slots are all there is
+pub starts_as : (fs : List LinkedFn) (f : LinkedFn) (entry : ℕ) (V : List ℤ) → V ≡ replicate f.slots (pos 0) → acts fs f (start_of entry f) [] V ≡ begun_at entry f ∷ []
+starts_as fs f entry V e =
+    let zeros : List ℤ = replicate f.slots (pos 0) in
+    let many : length zeros ≡ f.slots = length-replicate f.slots (pos 0) in
+    let slots : take f.slots zeros ≡ zeros = take_all f.slots zeros (omega (arith, many)) in
+    let operands : drop (0 + f.slots) zeros ≡ [] = drop_all (0 + f.slots) zeros (omega (arith, many)) in
+    rw (e, operands, slots) refl
+
+-- ---- the last text
+
+-- an end that no put made
+pub whole_end : (wanted : Option Ran) (old new : SinkState) (kept : List ℕ) (e : End) → e ≢ end.WriteFault → e ≢ end.Memory → WorkLeaves wanted old new kept e
+    → (put : List ℕ) × (wanted ≡ Some (record { how = e; text = put ++ kept })) × (new ≡ with_text put old)
+whole_end wanted old new kept end.WriteFault a b h = absurd (a refl)
+whole_end wanted old new kept end.Memory a b h = absurd (b refl)
+whole_end wanted old new kept end.Ended a b h = h
+whole_end wanted old new kept (end.Trapped kind f at) a b h = h
+whole_end wanted old new kept end.OutOfSteps a b h = h
+
+pub run_end : (wanted : Option Ran) (old newer : SinkState) (e : End) → e ≢ end.WriteFault → e ≢ end.Memory → (text : List ℕ) × (wanted ≡ Some (record { how = e; text = text })) × (newer ≡ with_text text old) → RunLeaves wanted old newer e
+run_end wanted old newer end.WriteFault a b h = absurd (a refl)
+run_end wanted old newer end.Memory a b h = absurd (b refl)
+run_end wanted old newer end.Ended a b h = h
+run_end wanted old newer (end.Trapped kind f at) a b h = h
+run_end wanted old newer end.OutOfSteps a b h = h
+
+pub done_end : (wanted : Option Ran) (old new newer : SinkState) (kept : List ℕ) (e : End) → e ≢ end.WriteFault → e ≢ end.Memory → WorkLeaves wanted old new kept e → newer ≡ with_text kept new → RunLeaves wanted old newer e
+done_end wanted old new newer kept e a b h told =
+    let w = whole_end wanted old new kept e a b h in
+    run_end wanted old newer e a b (w.0 ++ kept, w.1, told ∙ ap (with_text kept) w.2 ∙ ap (λ held. record old { held = held }) (append_known-append old.held w.0 kept))
+
+front_end : (wanted : Option Ran) (old new newer : SinkState) (kept : List ℕ) (how : End) (put : List ℕ) → wanted ≡ Some (record { how = how; text = put ++ kept }) → new ≡ with_text put old → AppendsFront new.held newer.held kept → FrontOf wanted old newer
+front_end wanted old new newer kept how put is told a =
+    let b : AppendsFront (append_known old.held put) newer.held kept = subst (λ (n : SinkState). AppendsFront n.held newer.held kept) told a in
+    rw is (record {
+      front = put ++ b.front;
+      rest = b.rest;
+      splits = append_assoc put b.front b.rest ∙ ap (λ (x : List ℕ). put ++ x) b.splits;
+      appends = b.appends ∙ append_known-append old.held put b.front;
+    })
+
+pub failed_end : (wanted : Option Ran) (old new newer : SinkState) (kept : List ℕ) (e : End) → e ≢ end.WriteFault → e ≢ end.Memory → WorkLeaves wanted old new kept e → PuttingLeaves new kept putting.Failed newer → RunLeaves wanted old newer end.WriteFault
+failed_end wanted old new newer kept e a b h p =
+    let w = whole_end wanted old new kept e a b h in
+    (subst (λ (n : SinkState). Rose n.faults newer.faults) w.2 p.0, front_end wanted old new newer kept e w.0 w.1 w.2 p.1)
+
+pub memory_end : (wanted : Option Ran) (old new newer : SinkState) (kept : List ℕ) (e : End) → e ≢ end.WriteFault → e ≢ end.Memory → WorkLeaves wanted old new kept e → PuttingLeaves new kept putting.Memory newer → RunLeaves wanted old newer end.Memory
+memory_end wanted old new newer kept e a b h p =
+    let w = whole_end wanted old new kept e a b h in
+    (p.0 ∙ ap (λ (n : SinkState). n.faults) w.2, front_end wanted old new newer kept e w.0 w.1 w.2 p.1)

@@ -1,0 +1,13 @@
+pub mod Acts
+pub mod Effect
+pub mod Faults
+pub mod Heights
+pub mod Instruction
+pub mod MemorySinkState
+pub mod Putting
+pub mod Running
+pub mod SinkState
+pub mod Sound
+pub mod Standing
+pub mod Valid
+pub mod Words

@@ -1,0 +1,15 @@
+-- An image that keeps the rules of the machine.
+use Rattle.std.specs.Prelude.{◌≡◌, ◌≤◌, ℕ, List, length, map, Bool, true, Option, None}
+use Rattle.object_format.specs.Image.{Linked}
+use Rattle.stack_vm.specs.Heights.{greatest_of}
+use Rattle.stack_vm.specs.Faults.{image_fault}
+
+-- a validated image, and whether the room for its run is taken
+pub record Validated : Type 0 where
+  pub image : Linked
+  pub reserved : Bool
+
+-- the image has no fault, and these are the greatest heights of its functions
+pub record IsRunnable (i : Linked) (heights : List ℕ) : Type 0 where
+  pub valid : image_fault i ≡ None
+  pub most : heights ≡ map (greatest_of i.functions) i.functions

@@ -1,0 +1,125 @@
+//! Whether a function keeps the rules of the machine.
+
+ghost use Rattle.std.specs.Prelude.{◌≡◌, ℕ, ◌+◌, ◌-◌, ◌<◌, ◌≤◌, ◌^◌, length, replicate, Bool, false, None, OnOk, List};
+ghost use Rattle.lar_tree.specs.Answers.{Answers};
+ghost use Rattle.object_format.specs.Image.{LinkedFn};
+ghost use Rattle.object_format.specs.Reading.{code_fault};
+ghost use Rattle.stack_vm.specs.Instruction.{instructions};
+ghost use Rattle.stack_vm.specs.Heights.{greatest_of, heights_of};
+ghost use Rattle.stack_vm.specs.Faults.{code_faults, checked, Judges};
+
+use crate::crossing::cross;
+use crate::faults::first;
+use crate::heights::{NONE, measure};
+use crate::instruction::{Placed, list};
+use lar_tree::OrMemory;
+use object_format::{BadFile, ImageFn, What};
+use std::alloc::{AllocError, Global};
+
+/// Room for what is known of the function at hand: its instructions, and by offset what jumps bring,
+/// the heights, and whether a jump brings another height.
+#[derive(Drop)]
+pub struct Scratch {
+    listed: Vec<Placed>,
+    brought: Vec<u32>,
+    found: Vec<u32>,
+    crossed: Vec<bool>,
+}
+
+impl Scratch {
+    pub fn new(alloc: Global) -> Scratch {
+        Scratch {
+            listed: Vec::new(alloc),
+            brought: Vec::new(alloc),
+            found: Vec::new(alloc),
+            crossed: Vec::new(alloc),
+        }
+    }
+}
+
+/// No height at each offset below a length.
+fn refill(numbers: &mut Vec<u32>, len: usize) -> Result<(), AllocError>
+    ensures { OnOk result (numbers.new.items ≡ replicate len (2 ^ 32 - 1)) }
+{
+    numbers.clear();
+    numbers.resize(len, NONE)?;
+    Ok(())
+}
+
+fn unset(crossed: &mut Vec<bool>, len: usize) -> Result<(), AllocError>
+    ensures { OnOk result (crossed.new.items ≡ replicate len false) }
+{
+    crossed.clear();
+    crossed.resize(len, false)?;
+    Ok(())
+}
+
+/// The greatest height of a function, or the first fault of its code, which begins `at` bytes into
+/// the file. Nothing is noted at first.
+fn judge(
+    functions: &[ImageFn],
+    function: &ImageFn,
+    listed: &[Placed],
+    brought: &mut [u32],
+    found: &mut [u32],
+    crossed: &mut [bool],
+    at: u64,
+) -> Result<u32, BadFile>
+    requires fits { at < 2 ^ 62 }
+    requires short { length function.now.code < 2 ^ 16 }
+    requires listed { listed.now ≡ instructions function.now.code }
+    requires brought { brought.old ≡ replicate (length function.now.code) (2 ^ 32 - 1) }
+    requires found { found.old ≡ replicate (length function.now.code) (2 ^ 32 - 1) }
+    requires crossed { crossed.old ≡ replicate (length function.now.code) false }
+    ensures { Judges functions.now at function.now result }
+{
+    let greatest = measure(functions, listed, brought, found);
+    cross(functions, listed, found, crossed);
+    match first(functions, function, listed, found, crossed, at) {
+        Some(fault) => Err(fault),
+        None => Ok(greatest),
+    }
+}
+
+/// The greatest height of a function that begins `at` bytes into the file, or its first fault.
+#[tactic(auto, unfolding(crate::specs::Faults::function_fault))]
+pub fn check(
+    scratch: &mut Scratch,
+    functions: &[ImageFn],
+    function: &ImageFn,
+    at: u64,
+) -> Result<u32, OrMemory<BadFile>>
+    requires fits { at < 2 ^ 61 }
+    requires whole { (count : ℕ) × (code_fault count 0 0 function.now.code ≡ None) }
+    ensures { Answers (λ n. n) result (checked functions.now at function.now) }
+{
+    let code = function.code();
+    if function.slots() < function.params() {
+        return Err(OrMemory::Refused(BadFile {
+            at: at + 2,
+            what: What::Slots,
+        }));
+    }
+    if code.is_empty() {
+        return Err(OrMemory::Refused(BadFile {
+            at: at + 5,
+            what: What::End,
+        }));
+    }
+    list(&mut scratch.listed, code)?;
+    refill(&mut scratch.brought, code.len())?;
+    refill(&mut scratch.found, code.len())?;
+    unset(&mut scratch.crossed, code.len())?;
+    match judge(
+        functions,
+        function,
+        &scratch.listed,
+        &mut scratch.brought,
+        &mut scratch.found,
+        &mut scratch.crossed,
+        at + 5,
+    ) {
+        Ok(greatest) => Ok(greatest),
+        Err(fault) => Err(OrMemory::Refused(fault)),
+    }
+}
