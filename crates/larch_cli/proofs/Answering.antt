@@ -1,7 +1,7 @@
 -- Why a call that meets no fault gives the answer.
-use Rattle.std.proofs.Common.{◌≡◌, ◌≢◌, ◌⊎◌, inl, inr, ℕ, ℤ, List, [], Option, Some, None, Result, Ok, Err, IfSome, IsSome, refl, sym, ap, ◌∙◌, subst}
+use Rattle.std.proofs.Common.{◌≡◌, ◌≢◌, inl, inr, ℕ, ℤ, List, [], Option, Some, None, Ok, Err, IfSome, IsSome, refl, sym, ap, ◌∙◌, subst}
 use Rattle.std.specs.Option.{option_and_then, option_map}
-use Rattle.std.specs.FinMap.{get, insert}
+use Rattle.std.specs.FinMap.{get}
 use Rattle.outside.specs.Counts.{Rose}
 use Rattle.outside.specs.Held.{Held, stored}
 use Rattle.stack_vm.specs.SinkState.{SinkState, with_text}
@@ -12,7 +12,7 @@ use Rattle.larch_cli.proofs.Counting.{sink_rose}
 use Rattle.larch_cli.specs.FilesState.{FilesState}
 use Rattle.larch_cli.specs.Status.{line_of}
 use Rattle.larch_cli.specs.Words.{command_of, source_name, image_name}
-use Rattle.larch_cli.specs.Build.{accepted, numbers_in, image_of, summary, AreNumbersIn, Builds, ReadFails, WriteFails, BuildEnds, after_reading}
+use Rattle.larch_cli.specs.Build.{accepted, numbers_in, image_of, summary, Builds, BuildEnds}
 use Rattle.larch_cli.specs.Run.{valid_image, image_in, Ended, RunEnds}
 use Rattle.larch_cli.specs.Report.{Reported}
 use Rattle.larch_cli.specs.Plain.{Outside, NotServed, CommandEnds, PlainEnds, Answer, refused, printed, built, status_at, ran, run_of_file, answer_of, answer_to, IsCalm, Gave, Answered}

@@ -1,5 +1,5 @@
 -- What the counts of faults say of a status.
-use Rattle.std.proofs.Common.{◌≡◌, ◌≢◌, ◌⊎◌, inl, inr, ℕ, List, Option, Some, None, refl, sym, ap, ◌∙◌, subst}
+use Rattle.std.proofs.Common.{◌≡◌, ◌≢◌, ◌⊎◌, inl, inr, ℕ, List, Option, Some, None, refl, sym, ap, subst}
 use Rattle.outside.specs.Counts.{Rose}
 use Rattle.stack_vm.specs.SinkState.{SinkState}
 use Rattle.larch_cli.specs.FilesState.{FilesState}

@@ -10,7 +10,7 @@ use Rattle.larch_cli.specs.FilesState.{FilesState, after_write, holding}
 use Rattle.stack_vm.specs.SinkState.{SinkState, with_text}
 use Rattle.larch_cli.specs.Words.{image_name}
 use Rattle.larch_cli.specs.Build.{AreNumbersIn, after_reading, image_of, summary, Builds, BuildEnds}
-use Rattle.larch_cli.specs.Run.{LoadEnds, Ended, Began, RunEnds}
+use Rattle.larch_cli.specs.Run.{LoadEnds, Ended, RunEnds}
 use Rattle.larch_cli.specs.Steps.{EndEnds, status_of, WriteEnds, PutEnds}
 use Rattle.larch_cli.specs.declared.status.Status.{Status}
 use Rattle.larch_cli.specs.declared.status.Status.TheVariants.{Done, Usage, Absent, FileFault, SinkFault, Memory, BadFile, Trapped, OutOfSteps, Unsupported}

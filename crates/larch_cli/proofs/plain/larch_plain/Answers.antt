@@ -1,5 +1,5 @@
 use Rattle.std.proofs.Common.{map, string_bytes}
-use Rattle.larch_cli.specs.Plain.{Outside, PlainEnds}
+use Rattle.larch_cli.specs.Plain.{Outside}
 use Rattle.larch_cli.proofs.Answering.{answered}
 use Rattle.larch_cli.proofs.Counting.{usage_only, sinks_rose, files_rose}
 use Rattle.larch_cli.proofs.plain.larch_plain.Goals as goal
