@@ -35,6 +35,68 @@ fn read(bytes: &[u8]) -> (usize, Vec<Function<'_>>) {
     (number(bytes, 6), functions)
 }
 
+/// The bytes of an instruction, and the words that it takes and pushes.
+fn shape(functions: &[Function], here: &Function, code: &[u8], place: usize) -> (usize, u32, u32) {
+    match code[place] {
+        0x01 => (2, 0, 1),
+        0x02 => (9, 0, 1),
+        0x03 => (2, 0, 1),
+        0x04 => (2, 1, 0),
+        0x05 | 0x17 => (1, 1, 0),
+        0x06..=0x0a | 0x0c..=0x11 => (1, 2, 1),
+        0x0b | 0x12 => (1, 1, 1),
+        0x13 => (5, 0, 0),
+        0x14 => (5, 1, 0),
+        0x15 => {
+            let callee = &functions[number(code, place + 1)];
+            (5, callee.params as u32, callee.result as u32)
+        }
+        0x16 => (1, here.result as u32, 0),
+        0x19 => (1, 1, 2),
+        0x18 | 0x1a => (1, 0, 0),
+        byte => panic!("no instruction {byte}"),
+    }
+}
+
+/// Looks over a function as a validator has to: its instructions, the height at each, and each jump's target.
+fn look_over(functions: &[Function], here: &Function) -> bool {
+    const NONE: u32 = u32::MAX;
+    let code = here.code;
+    let mut starts = vec![false; code.len()];
+    let mut heights = vec![NONE; code.len()];
+    let mut place = 0;
+    while place < code.len() {
+        starts[place] = true;
+        place += shape(functions, here, code, place).0;
+    }
+    let (mut place, mut next, mut last) = (0, 0u32, 0u8);
+    while place < code.len() {
+        let (size, takes, pushes) = shape(functions, here, code, place);
+        let height = if next != NONE { next } else if heights[place] != NONE { heights[place] } else { 0 };
+        heights[place] = height;
+        last = code[place];
+        let in_frame = !matches!(last, 0x03 | 0x04) || usize::from(code[place + 1]) < here.slots;
+        if takes > height || !in_frame || (last == 0x16 && height != takes) {
+            return false;
+        }
+        let left = height - takes + pushes;
+        if matches!(last, 0x13 | 0x14) {
+            let target = number(code, place + 1);
+            if target >= code.len() || !starts[target] {
+                return false;
+            }
+            if heights[target] == NONE {
+                heights[target] = left;
+            } else if heights[target] != left {
+                return false;
+            }
+        }
+        next = if matches!(last, 0x13 | 0x16 | 0x18) { NONE } else { left };
+        place += size;
+    }
+    matches!(last, 0x13 | 0x16 | 0x18)
+}
+
 fn run(entry: usize, functions: &[Function]) {
     let mut out = std::io::stdout().lock();
     let mut words = vec![0i64; 3_598_576];
@@ -108,5 +170,6 @@ fn run(entry: usize, functions: &[Function]) {
 fn main() {
     let bytes = std::fs::read(std::env::args().nth(1).unwrap()).unwrap();
     let (entry, functions) = read(&bytes);
+    assert!(functions.iter().all(|function| look_over(&functions, function)));
     run(entry, &functions);
 }
