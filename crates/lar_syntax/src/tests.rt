@@ -1,5 +1,6 @@
 use super::*;
-use lar_tree::{Bytes, File, Text};
+use lar_bytes::{Bytes, Text};
+use lar_tree::File;
 use std::alloc::{AllocError, Global};
 use std::test::Fail;
 

@@ -1,1 +1,16 @@
-pub mod Answers
+pub mod Code
+pub mod Commas
+pub mod Diagnostic
+pub mod ExprView
+pub mod Exprs
+pub mod ItemView
+pub mod Items
+pub mod Keyword
+pub mod Marks
+pub mod Programs
+pub mod Sign
+pub mod Spelling
+pub mod StmtView
+pub mod Stmts
+pub mod TypeView
+pub mod Types

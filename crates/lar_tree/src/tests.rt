@@ -1,49 +1,176 @@
+ghost use Rattle.std.specs.Prelude.{◌≡◌, ◌∷◌, [], IfOk};
+ghost use Rattle.std.specs.Str.{IsAscii};
+
 use super::*;
 use std::alloc::{AllocError, Global};
 use std::test::Fail;
 
-fn refuse(alloc: Global, wanted: bool) -> Result<Text, OrMemory<u8>> {
-    if wanted {
-        return Err(OrMemory::Refused(7));
+#[test]
+fn texts_in_a_row(rt: HostRuntime) -> Result<(), Fail> {
+    let alloc = rt.alloc();
+    let mut texts = Texts::new(alloc);
+    texts.push(Text::copied(alloc, "a")?)?;
+    texts.push(Text::copied(alloc, "b")?)?;
+    assert_eq!(rt; texts.len(), 2);
+    let texts = Texts::from_vec(texts.into_vec());
+    assert!(rt; matches!(texts.as_slice(), [_, b] if b.as_str() == "b"));
+    Ok(())
+}
+
+#[test]
+fn keywords_and_names(rt: HostRuntime) -> Result<(), Fail> {
+    let words = [
+        "mod",
+        "struct",
+        "const",
+        "fn",
+        "let",
+        "if",
+        "else",
+        "while",
+        "return",
+        "print",
+        "static_assert",
+        "new",
+        "true",
+        "false",
+        "i64",
+        "bool",
+    ];
+    for word in words {
+        let keyword = Keyword::of(word.as_bytes()).ok_or("no keyword")?;
+        assert_eq!(rt; keyword.spelling(), word);
     }
-    Ok(Text::copied(alloc, "taken")?)
-}
-
-#[test]
-fn texts_grow_at_the_end(rt: HostRuntime) -> Result<(), Fail> {
-    let alloc = rt.alloc();
-    let mut text = Text::new(alloc);
-    assert!(rt; text.is_empty());
-    text.append(&Text::copied(alloc, "a.")?)?;
-    text.append(&Text::from_string("larch".to_string(alloc)?))?;
-    assert_eq!(rt; text.as_str(), "a.larch");
-    assert_eq!(rt; text.len(), 7);
-    assert!(rt; text == Text::copied(alloc, "a.larch")?);
-    assert!(rt; text != Text::copied(alloc, "a.larc")?);
+    for name in ["", "Mod", "mo", "mods", "inline", "i6", "static_asser"] {
+        assert!(rt; Keyword::of(name.as_bytes()).is_none(), "at {name}");
+    }
     Ok(())
 }
 
 #[test]
-fn bytes_grow_at_the_end(rt: HostRuntime) -> Result<(), Fail> {
+fn tokens_are_compared(rt: HostRuntime) -> Result<(), Fail> {
     let alloc = rt.alloc();
-    let mut bytes = Bytes::new(alloc);
-    assert!(rt; bytes.is_empty());
-    bytes.push(1)?;
-    bytes.append(&[2, 3])?;
-    assert_eq!(rt; bytes.as_slice(), [1u8, 2, 3].as_slice());
-    assert_eq!(rt; bytes.len(), 3);
-    assert!(rt; bytes == Bytes::copied(alloc, &[1, 2, 3])?);
-    let bytes = Bytes::from_vec(bytes.into_vec());
-    assert!(rt; bytes != Bytes::copied(alloc, &[1, 2])?);
+    let span = Span {
+        file: 0,
+        line: 1,
+        col: 2,
+    };
+    let name = Token {
+        kind: Kind::Name(Text::copied(alloc, "a")?),
+        span,
+    };
+    let number = Token {
+        kind: Kind::Number(7),
+        span,
+    };
+    assert!(rt; name != number);
+    assert!(rt; name.kind == Kind::Name(Text::copied(alloc, "a")?));
+    assert_eq!(rt; Sign::PathSep.spelling(), "::");
+    assert!(rt; Kind::Word(Keyword::Fn) != Kind::Sign(Sign::Arrow));
+    Ok(())
+}
+
+fn one(alloc: Global, text: &str) -> Result<Texts, AllocError>
+    requires { IsAscii text.now }
+    ensures { IfOk result (λ texts. texts ≡ text.now ∷ []) }
+{
+    let mut texts = Texts::new(alloc);
+    texts.push(Text::copied(alloc, text)?)?;
+    Ok(texts)
+}
+
+// The line of the diagnostic at 12:3 of a.larch with these arguments, or no bytes where the text takes another number of them.
+fn line(alloc: Global, code: Code, args: &[&str]) -> Result<Bytes, AllocError> {
+    let mut texts = Texts::new(alloc);
+    for arg in args {
+        if arg.is_ascii() {
+            texts.push(Text::copied(alloc, arg)?)?;
+        }
+    }
+    let mut out = Bytes::new(alloc);
+    if texts.len() == code.arity() {
+        let file = Text::copied(alloc, "a.larch")?;
+        Diag::new(code, file, 12, 3, texts).write(alloc, &mut out)?;
+    }
+    Ok(out)
+}
+
+#[test]
+fn each_code_has_its_line(rt: HostRuntime) -> Result<(), Fail> {
+    let alloc = rt.alloc();
+    let cases: [(Code, &[&str], &str); 18] = [
+        (Code::UnexpectedByte, &["26"], "E01 unexpected byte 26"),
+        (Code::SyntaxError, &[], "E02 syntax error"),
+        (Code::DefinedTwice, &["f"], "E03 name f defined twice"),
+        (Code::UnknownName, &["b::G"], "E04 unknown name b::G"),
+        (
+            Code::WrongType,
+            &["bool", "(i64,T)"],
+            "E05 wanted bool, found (i64,T)",
+        ),
+        (
+            Code::WrongCount,
+            &["2", "10"],
+            "E06 wanted 2 arguments, found 10",
+        ),
+        (Code::NoSuchPlace, &[], "E07 no such field or place"),
+        (
+            Code::NestedTooDeep,
+            &["S"],
+            "E08 struct S is nested too deep",
+        ),
+        (Code::NoLawfulMain, &[], "E09 no lawful main"),
+        (Code::PastLimit, &["64"], "E10 past the limit 64"),
+        (
+            Code::MayEndWithoutValue,
+            &["f"],
+            "E11 function f may end without a value",
+        ),
+        (Code::ArgumentTooLarge, &[], "E20 type argument too large"),
+        (Code::TooManyInstances, &[], "E21 more than 65536 instances"),
+        (
+            Code::AssertionFalse,
+            &["a::f"],
+            "E30 static assertion is false in a::f",
+        ),
+        (
+            Code::AssertionTraps,
+            &["a::f"],
+            "E31 static assertion traps in a::f",
+        ),
+        (
+            Code::TooManySlots,
+            &["a::f"],
+            "E32 more than 255 slots in a::f",
+        ),
+        (
+            Code::TooMuchCode,
+            &["b::f"],
+            "E33 more than 65535 code bytes in b::f",
+        ),
+        (Code::ImageTooLarge, &[], "E40 image over 67108864 bytes"),
+    ];
+    for (code, args, text) in cases {
+        let wanted = format!(in alloc; "a.larch:12:3: {text}\n")?;
+        assert!(rt;
+            line(alloc, code, args)?.as_slice() == wanted.as_bytes(),
+            "at {text}"
+        );
+    }
     Ok(())
 }
 
 #[test]
-fn a_refusal_is_kept(rt: HostRuntime) -> Result<(), Fail> {
+fn a_line_goes_to_the_end(rt: HostRuntime) -> Result<(), Fail> {
     let alloc = rt.alloc();
-    assert!(rt; matches!(refuse(alloc, true), Err(OrMemory::Refused(7))));
-    assert!(rt; matches!(refuse(alloc, false), Ok(text) if text.as_str() == "taken"));
-    let error: OrMemory<u8> = OrMemory::from(AllocError);
-    assert_eq!(rt; error, OrMemory::Memory);
+    let file = Text::copied(alloc, "main.larch")?;
+    let diag = Diag::new(Code::UnexpectedByte, file, 1, 21, one(alloc, "26")?);
+    assert!(rt; diag.code() == Code::UnexpectedByte);
+    assert_eq!(rt; diag.file().as_str(), "main.larch");
+    assert_eq!(rt; (diag.line(), diag.col()), (1, 21));
+    assert!(rt; matches!(diag.args(), [byte] if byte.as_str() == "26"));
+    let mut out = Bytes::copied(alloc, b"before\n")?;
+    diag.write(alloc, &mut out)?;
+    assert!(rt; out == Bytes::copied(alloc, b"before\nmain.larch:1:21: E01 unexpected byte 26\n")?);
     Ok(())
 }

@@ -1,7 +1,7 @@
 -- An answer that is a definition's, unless memory ran out.
 use Rattle.std.specs.Prelude.{◌≡◌, Result, Ok, Err}
-use Rattle.lar_tree.specs.declared.memory.OrMemory.{OrMemory}
-use Rattle.lar_tree.specs.declared.memory.OrMemory.TheVariants.{Refused, Memory}
+use Rattle.lar_bytes.specs.declared.memory.OrMemory.{OrMemory}
+use Rattle.lar_bytes.specs.declared.memory.OrMemory.TheVariants.{Refused, Memory}
 
 -- the refusal that was wanted, or want of memory, of which nothing is said
 abbrev pub Fails : {Y E : Type 0} → OrMemory E → Result Y E → Type 0

@@ -1,0 +1,15 @@
+#!/bin/sh
+# Prints how long sources of 16 MiB take to be cut into tokens: the program token_speed.main, over a copy of the crates that it stands on.
+set -e
+here=$(cd "$(dirname "$0")/.." && pwd)
+copy=$(mktemp -d)
+trap 'rm -rf "$copy"' EXIT
+mkdir -p "$copy/crates/token_speed/src"
+for crate in lar_bytes lar_tree lar_syntax; do
+    cp -r "$here/crates/$crate" "$copy/crates/$crate"
+    rm -rf "$copy/crates/$crate/out" "$copy/crates/$crate/must-fail"
+done
+cp "$here/bench/token_speed.main" "$copy/crates/token_speed/src/main.rt"
+printf 'lar_bytes:\nlar_tree: lar_bytes\nlar_syntax: lar_bytes lar_tree\ntoken_speed: lar_tree lar_syntax\n' > "$copy/crates.txt"
+cd "$copy/crates/token_speed"
+rt "${1:-run}"
