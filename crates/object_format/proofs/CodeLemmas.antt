@@ -11,7 +11,7 @@
 --
 -- then `whole-linked` of it is the `whole` of `ImageFn::new`, and the pair (it, tt) the `calls` of
 -- `Image::new` where the function is the only one.
-use Rattle.std.proofs.Common.{◌≡◌, ◌≢◌, ℕ, ◌<◌, List, [], ◌∷◌, ◌++◌, length, refl, sym, ap, ◌∙◌, append_assoc}
+use Rattle.std.proofs.Common.{◌≡◌, ◌≢◌, ℕ, ◌<◌, ◌≤◌, List, [], ◌∷◌, ◌++◌, length, refl, sym, ap, ◌∙◌, append_assoc, arith}
 use Rattle.std.specs.Int.{w32, from_be_bytes}
 use Rattle.std.specs.List.{flat_map, AllByRecursion}
 use Rattle.std.proofs.lemmas.List.{append-nil}
@@ -76,4 +76,12 @@ whole-linked count code h = record {
   parts = h.parts;
   spelled = h.spelled;
   good = all-more (IsLinkedInstruction count) IsInstruction (λ i p. p.0) h.parts h.good;
+}
+
+-- and stays below a greater count
+pub linked-more : (count more : ℕ) (code : List ℕ) → count ≤ more → IsLinkedCode count code → IsLinkedCode more code
+linked-more count more code le h = record {
+  parts = h.parts;
+  spelled = h.spelled;
+  good = all-more (IsLinkedInstruction count) (IsLinkedInstruction more) (λ i p. (p.0, λ call. omega (arith, p.1 call))) h.parts h.good;
 }

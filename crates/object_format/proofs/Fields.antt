@@ -1,14 +1,15 @@
 -- A field that is read is the field that was written, and what was written is read again.
-use Rattle.std.proofs.Common.{◌≡◌, ℕ, suc, ◌+◌, ◌^◌, ◌<◌, ◌≤◌, Bool, true, false, cond, ltb, List, [], ◌∷◌, ◌++◌, length, get_or, take, drop, Result, Ok, Err, refl, sym, ap, subst, ◌∙◌, append_assoc, arith, inl, inr}
+use Rattle.std.proofs.Common.{◌≡◌, ℕ, suc, ◌+◌, ◌^◌, ◌<◌, ◌≤◌, Bool, true, false, cond, eqb, ltb, List, [], ◌∷◌, ◌++◌, length, get_or, take, drop, Result, Ok, Err, refl, sym, ap, subst, ◌∙◌, append_assoc, arith, inl, inr}
 use Rattle.std.specs.Int.{Width, w16, w32, byte_len, from_be_bytes, to_be_bytes}
 use Rattle.std.specs.Str.{bytes_eq}
-use Rattle.std.proofs.lemmas.Bool.{cases_lt, cases_Bool, ltb-false, le-ltb}
-use Rattle.std.proofs.lemmas.List.{take_at, drop_at, take-append-drop, length-append, length-take, get_or-drop, get_or-take, get_or_past}
+use Rattle.std.proofs.lemmas.Bool.{cases_lt, cases_Bool, ltb-false, le-ltb, eqb-true}
+use Rattle.std.proofs.lemmas.List.{take_at, drop_at, take-append-drop, length-append, length-take, get_or-drop, get_or-take, get_or_past, nil_from_length}
 use Rattle.std.proofs.lemmas.Nat.{be_bytes_2, be_bytes_4, from_be_bytes-to_be_bytes_2, from_be_bytes-to_be_bytes_4}
 use Rattle.std.proofs.lemmas.Slice.Eq.{bytes_eq-Decides}
 use Rattle.object_format.specs.declared.fault.BadFile.{BadFile}
 use Rattle.object_format.specs.declared.fault.What.{What}
-use Rattle.object_format.specs.Reading.{Rest, ◌>>=◌, refused, after, block_at, first_byte, byte_at, number_at, fixed_at}
+use Rattle.object_format.specs.declared.fault.What.TheVariants.{Magic, Version}
+use Rattle.object_format.specs.Reading.{Rest, ◌>>=◌, refused, after, block_at, first_byte, byte_at, number_at, fixed_at, opening_at, end_at}
 
 abbrev pub IsBytes : List ℕ → Type 0
 IsBytes bytes = (i : ℕ) → get_or bytes i 0 < 256
@@ -114,6 +115,13 @@ block_takes n r text s fits e =
     let took : Takes r (take n r.bytes) (after n r) = record { parts = sym (take-append-drop n r.bytes); fits = IsBytes-drop n r.bytes fits } in
     subst (λ (p : List ℕ × Rest). Takes r p.0 p.1 × (length p.0 ≡ n)) g.1 (took, omega (arith, length-take n r.bytes))
 
+pub length-block : (n : ℕ) (r : Rest) (x : List ℕ × Rest) → block_at n r ≡ Ok x → length x.0 ≡ n
+length-block n r x e =
+    let g = guard_ok (ltb (length r.bytes) n) _ (take n r.bytes, after n r) x e in
+    let long : n ≤ length r.bytes = ltb-false _ _ g.0 in
+    let taken : length (take n r.bytes) ≡ n = omega (arith, length-take n r.bytes) in
+    sym (ap (λ (p : List ℕ × Rest). length p.0) g.1) ∙ taken
+
 pub block_again : (text : List ℕ) (at : ℕ) (behind : List ℕ) → block_at (length text) (record { at = at; bytes = text ++ behind }) ≡ Ok (text, record { at = at + length text; bytes = behind })
 block_again text at behind =
     let long : ltb (length (text ++ behind)) (length text) ≡ false = le-ltb _ _ (omega (arith, length-append text behind)) in
@@ -139,3 +147,20 @@ fixed_again text what at behind =
     let long : ltb (length (text ++ behind)) (length text) ≡ false = le-ltb _ _ (omega (arith, length-append text behind)) in
     let same : bytes_eq text text ≡ true = (bytes_eq-Decides text text).1 refl in
     rw (long, take_at text behind (length text) refl, drop_at text behind (length text) refl, same) refl
+
+-- ---- the magic and the version, and the end
+
+pub opening_takes : (magic : List ℕ) (r s : Rest) → IsBytes r.bytes → opening_at magic r ≡ Ok s → Takes r (magic ++ 0 ∷ 1 ∷ []) s
+unfolding opening_at
+opening_takes magic r s fits e =
+    let one = 0 ∷ 1 ∷ [] in
+    let a = bind_ok (fixed_at magic Magic r) (λ m. fixed_at one Version m) s e in
+    let first = fixed_takes magic Magic r a.0 fits a.1 in
+    Takes-then r magic a.0 one s first (fixed_takes one Version a.0 s first.fits a.2)
+
+pub opening_again : (magic : List ℕ) (behind : List ℕ) → opening_at magic (record { at = 0; bytes = magic ++ (0 ∷ 1 ∷ behind) }) ≡ Ok (record { at = 0 + length magic + 2; bytes = behind })
+unfolding opening_at
+opening_again magic behind = rw (fixed_again magic Magic 0 (0 ∷ 1 ∷ behind), fixed_again (0 ∷ 1 ∷ []) Version (0 + length magic) behind) refl
+
+pub end_is : (r : Rest) (u : Unit {0}) → end_at r ≡ Ok u → r.bytes ≡ []
+end_is r u e = nil_from_length r.bytes (eqb-true _ _ (guard_held (eqb (length r.bytes) 0) _ tt u e).0)

@@ -1,22 +1,22 @@
 -- The two laws of images: what is read is spelled so, and what is spelled so is read.
-use Rattle.std.proofs.Common.{◌≡◌, ℕ, zero, suc, ◌+◌, ◌^◌, ◌<◌, cond, eqb, ltb, List, [], ◌∷◌, ◌++◌, length, Option, Some, None, Result, Ok, Err, refl, sym, ap, subst, ◌∙◌, append_assoc, arith}
+use Rattle.std.proofs.Common.{◌≡◌, ℕ, zero, suc, ◌+◌, ◌^◌, ◌<◌, cond, ltb, List, [], ◌∷◌, ◌++◌, length, Option, Some, None, Result, Ok, Err, refl, sym, ap, subst, ◌∙◌, append_assoc, arith}
 use Rattle.std.specs.Prelude.{IfOk}
 use Rattle.std.specs.List.{flat_map, AllByRecursion}
 use Rattle.std.specs.Int.{w16, w32, to_be_bytes}
-use Rattle.std.proofs.lemmas.Bool.{eqb-true, lt-ltb, ltb-true}
-use Rattle.std.proofs.lemmas.List.{append-nil, nil_from_length}
-use Rattle.lar_tree.specs.Answers.{Answers}
-use Rattle.lar_tree.specs.declared.memory.OrMemory.{OrMemory}
+use Rattle.std.proofs.lemmas.Bool.{lt-ltb, ltb-true}
+use Rattle.std.proofs.lemmas.List.{append-nil}
+use Rattle.lar_bytes.specs.Answers.{Answers}
+use Rattle.lar_bytes.specs.declared.memory.OrMemory.{OrMemory}
 use Rattle.object_format.specs.declared.fault.BadFile.{BadFile}
-use Rattle.object_format.specs.declared.fault.What.TheVariants.{Magic, Version, Entry, Trailing}
+use Rattle.object_format.specs.declared.fault.What.TheVariants.{Entry}
 use Rattle.object_format.specs.Code.{IsLinkedCode}
 use Rattle.object_format.specs.Image.{LinkedFn, Linked, IsLinkedFn, IsLinked, IsImage, function_spelling, image_magic, image_spelling}
-use Rattle.object_format.specs.Reading.{Rest, ◌>>=◌, refused, unless, byte_at, number_at, block_at, fixed_at, code_fault, function_at, functions_at, counts_at, head_at, image_at}
+use Rattle.object_format.specs.Reading.{Rest, ◌>>=◌, refused, unless, byte_at, number_at, block_at, code_fault, function_at, linked_behind, items_at, opening_at, end_at, counts_at, head_at, image_at}
 use Rattle.object_format.proofs.CodeFaults.{linked-code_fault, code_fault-linked}
 use Rattle.object_format.proofs.CodeLemmas.{whole-linked}
-use Rattle.object_format.proofs.Fields.{IsBytes, bind_ok, ok_is, guard_held, Takes, Takes-then, wide16, wide32, byte_takes, number_takes, number_again, block_takes, block_again, fixed_takes, fixed_again}
+use Rattle.object_format.proofs.Fields.{IsBytes, bind_ok, ok_is, guard_held, Takes, Takes-then, wide16, wide32, byte_takes, number_takes, number_again, block_takes, block_again, opening_takes, opening_again, end_is}
 
-unless_ok : {A : Type 0} (f : Option BadFile) (x y : A) → unless f x ≡ Ok y → (f ≡ None) × (x ≡ y)
+pub unless_ok : {A : Type 0} (f : Option BadFile) (x y : A) → unless f x ≡ Ok y → (f ≡ None) × (x ≡ y)
 unless_ok (Some f) x y e = absurd cc
 unless_ok None x y e = (refl, ok_is x y e)
 
@@ -27,7 +27,7 @@ pub record IsTakenFn (count : ℕ) (f : LinkedFn) : Type 0 where
   pub fits : IsLinkedFn f
   pub linked : IsLinkedCode count f.code
 
-function_takes : (count : ℕ) (r : Rest) (x : LinkedFn × Rest) → IsBytes r.bytes → function_at count r ≡ Ok x → Takes r (function_spelling x.0) x.1 × IsTakenFn count x.0
+pub function_takes : (count : ℕ) (r : Rest) (x : LinkedFn × Rest) → IsBytes r.bytes → function_at count r ≡ Ok x → Takes r (function_spelling x.0) x.1 × IsTakenFn count x.0
 unfolding function_at
 function_takes count r x fits e =
     let a = bind_ok (byte_at r) (λ params. byte_at params.1 >>= λ results. byte_at results.1 >>= λ slots. number_at w16 slots.1 >>= λ len. block_at len.0 len.1 >>= λ code. unless (code_fault count len.1.at 0 code.0) (record { params = params.0; «result» = results.0; slots = slots.0; code = code.0 }, code.1)) x e in
@@ -56,19 +56,36 @@ pub record AreTaken (count n : ℕ) (fs : List LinkedFn) : Type 0 where
   pub fit : AllByRecursion IsLinkedFn fs
   pub linked : AllByRecursion (λ f. IsLinkedCode count f.code) fs
 
-pub functions_take : (count n : ℕ) (r : Rest) (x : List LinkedFn × Rest) → IsBytes r.bytes → functions_at count n r ≡ Ok x → Takes r (flat_map function_spelling x.0) x.1 × AreTaken count n x.0
-unfolding functions_at
-functions_take count zero r x fits e =
-    subst (λ (y : List LinkedFn × Rest). Takes r (flat_map function_spelling y.0) y.1 × AreTaken count 0 y.0) (ok_is ([], r) x e) (record { parts = refl; fits = fits }, record { many = refl; fit = tt; linked = tt })
-functions_take count (suc n) r x fits e =
-    let a = bind_ok (function_at count r) (λ first. functions_at count n first.1 >>= λ others. Ok (first.0 ∷ others.0, others.1)) x e in
-    let b = bind_ok (functions_at count n a.0.1) (λ others. Ok (a.0.0 ∷ others.0, others.1)) x a.2 in
-    let first = function_takes count r a.0 fits a.1 in
-    let second = functions_take count n a.0.1 b.0 first.0.fits b.1 in
-    let both = Takes-then r (function_spelling a.0.0) a.0.1 (flat_map function_spelling b.0.0) b.0.1 first.0 second.0 in
-    let made : List LinkedFn × Rest = (a.0.0 ∷ b.0.0, b.0.1) in
-    subst (λ (y : List LinkedFn × Rest). Takes r (flat_map function_spelling y.0) y.1 × AreTaken count (suc n) y.0) (ok_is made x b.2)
-    (both, record { many = ap suc second.1.many; fit = (first.1.fits, second.1.fit); linked = (first.1.linked, second.1.linked) })
+-- what functions that were read behind others are
+record TakesMore (count n : ℕ) (front : List LinkedFn) (r : Rest) (x : List LinkedFn × Rest) : Type 0 where
+  pub more : List LinkedFn
+  pub all : x.0 ≡ front ++ more
+  pub takes : Takes r (flat_map function_spelling more) x.1
+  pub taken : AreTaken count n more
+
+take_more : (count n : ℕ) (front : List LinkedFn) (r : Rest) (x : List LinkedFn × Rest) → IsBytes r.bytes → items_at (linked_behind count) n front r ≡ Ok x → TakesMore count n front r x
+unfolding items_at linked_behind
+take_more count zero front r x fits e =
+    subst (TakesMore count 0 front r) (ok_is (front, r) x e)
+    (record { more = []; all = sym (append-nil front); takes = record { parts = refl; fits = fits }; taken = record { many = refl; fit = tt; linked = tt } })
+take_more count (suc n) front r x fits e =
+    let a = bind_ok (linked_behind count front r) (λ next. items_at (linked_behind count) n next.0 next.1) x e in
+    let f = bind_ok (function_at count r) (λ f. Ok (front ++ f.0 ∷ [], f.1)) a.0 a.1 in
+    let next : (front ++ f.0.0 ∷ [], f.0.1) ≡ a.0 = ok_is (front ++ f.0.0 ∷ [], f.0.1) a.0 f.2 in
+    let rest : items_at (linked_behind count) n (front ++ f.0.0 ∷ []) f.0.1 ≡ Ok x = ap (λ (p : List LinkedFn × Rest). items_at (linked_behind count) n p.0 p.1) next ∙ a.2 in
+    let first = function_takes count r f.0 fits f.1 in
+    let others = take_more count n (front ++ f.0.0 ∷ []) f.0.1 x first.0.fits rest in
+    record {
+      more = f.0.0 ∷ others.more;
+      all = others.all ∙ append_assoc front (f.0.0 ∷ []) others.more;
+      takes = Takes-then r (function_spelling f.0.0) f.0.1 (flat_map function_spelling others.more) x.1 first.0 others.takes;
+      taken = record { many = ap suc others.taken.many; fit = (first.1.fits, others.taken.fit); linked = (first.1.linked, others.taken.linked) };
+    }
+
+pub functions_take : (count n : ℕ) (r : Rest) (x : List LinkedFn × Rest) → IsBytes r.bytes → items_at (linked_behind count) n [] r ≡ Ok x → Takes r (flat_map function_spelling x.0) x.1 × AreTaken count n x.0
+functions_take count n r x fits e =
+    let all = take_more count n [] r x fits e in
+    subst (λ (fs : List LinkedFn). Takes r (flat_map function_spelling fs) x.1 × AreTaken count n fs) (sym all.all) (all.takes, all.taken)
 
 -- ---- the head
 
@@ -91,15 +108,10 @@ counts_take r x fits e =
 pub head_takes : (r : Rest) (x : ℕ × ℕ × Rest) → IsBytes r.bytes → head_at r ≡ Ok x → Takes r (image_magic ++ to_be_bytes w32 x.0 ++ to_be_bytes w32 x.1) x.2 × IsHead x.0 x.1
 unfolding head_at
 head_takes r x fits e =
-    let magic = 0x4c ∷ 0x52 ∷ 0x50 ∷ 0x58 ∷ [] in
-    let one = 0 ∷ 1 ∷ [] in
-    let a = bind_ok (fixed_at magic Magic r) (λ m. fixed_at one Version m >>= λ v. counts_at v) x e in
-    let b = bind_ok (fixed_at one Version a.0) (λ v. counts_at v) x a.2 in
-    let t1 = fixed_takes magic Magic r a.0 fits a.1 in
-    let t2 = fixed_takes one Version a.0 b.0 t1.fits b.1 in
-    let t3 = counts_take b.0 x t2.fits b.2 in
-    let e23 = Takes-then a.0 one b.0 (to_be_bytes w32 x.0 ++ to_be_bytes w32 x.1) x.2 t2 t3.0 in
-    (Takes-then r magic a.0 (one ++ (to_be_bytes w32 x.0 ++ to_be_bytes w32 x.1)) x.2 t1 e23, t3.1)
+    let a = bind_ok (opening_at (0x4c ∷ 0x52 ∷ 0x50 ∷ 0x58 ∷ []) r) (λ v. counts_at v) x e in
+    let t1 = opening_takes (0x4c ∷ 0x52 ∷ 0x50 ∷ 0x58 ∷ []) r a.0 fits a.1 in
+    let t2 = counts_take a.0 x t1.fits a.2 in
+    (Takes-then r image_magic a.0 (to_be_bytes w32 x.0 ++ to_be_bytes w32 x.1) x.2 t1 t2.0, t2.1)
 
 -- ---- the image
 
@@ -107,15 +119,15 @@ pub image_takes : (bytes : List ℕ) (i : Linked) → IsBytes bytes → image_at
 unfolding image_at
 image_takes bytes i fits e =
     let start : Rest = record { at = 0; bytes = bytes } in
-    let a = bind_ok (head_at start) (λ head. functions_at head.1 head.1 head.2 >>= λ fs. cond (eqb (length fs.1.bytes) 0) (Ok (record { entry = head.0; functions = fs.0 })) (refused fs.1.at Trailing)) i e in
-    let b = bind_ok (functions_at a.0.1 a.0.1 a.0.2) (λ fs. cond (eqb (length fs.1.bytes) 0) (Ok (record { entry = a.0.0; functions = fs.0 })) (refused fs.1.at Trailing)) i a.2 in
+    let a = bind_ok (head_at start) (λ head. items_at (linked_behind head.1) head.1 [] head.2 >>= λ fs. end_at fs.1 >>= λ nothing. Ok (record { entry = head.0; functions = fs.0 })) i e in
+    let b = bind_ok (items_at (linked_behind a.0.1) a.0.1 [] a.0.2) (λ fs. end_at fs.1 >>= λ nothing. Ok (record { entry = a.0.0; functions = fs.0 })) i a.2 in
     let made : Linked = record { entry = a.0.0; functions = b.0.0 } in
-    let g = guard_held (eqb (length b.0.1.bytes) 0) _ made i b.2 in
+    let g = bind_ok (end_at b.0.1) (λ nothing. Ok made) i b.2 in
     let head = head_takes start a.0 fits a.1 in
     let fs = functions_take a.0.1 a.0.1 a.0.2 b.0 head.0.fits b.1 in
     let front = image_magic ++ to_be_bytes w32 a.0.0 ++ to_be_bytes w32 a.0.1 in
     let body = flat_map function_spelling b.0.0 in
-    let nothing : b.0.1.bytes ≡ [] = nil_from_length b.0.1.bytes (eqb-true _ _ g.0) in
+    let nothing : b.0.1.bytes ≡ [] = end_is b.0.1 g.0 g.1 in
     let all : bytes ≡ (front ++ body) ++ b.0.1.bytes = (Takes-then start front a.0.2 body b.0.1 head.0 fs.0).parts in
     let spelled : bytes ≡ image_spelling made = all ∙ ap (λ (t : List ℕ). (front ++ body) ++ t) nothing ∙ append-nil (front ++ body) ∙ ap (λ (k : ℕ). (image_magic ++ to_be_bytes w32 a.0.0 ++ to_be_bytes w32 k) ++ body) (sym fs.1.many) in
     let many = fs.1.many in
@@ -124,11 +136,11 @@ image_takes bytes i fits e =
       count = omega (arith, head.1.fits, many);
       calls = subst (λ (k : ℕ). AllByRecursion (λ f. IsLinkedCode k f.code) b.0.0) (sym many) fs.1.linked;
     } in
-    subst (λ (v : Linked). IsImage v × (bytes ≡ image_spelling v)) g.1 (record { linked = linked; each = fs.1.fit }, spelled)
+    subst (λ (v : Linked). IsImage v × (bytes ≡ image_spelling v)) (ok_is made i g.2) (record { linked = linked; each = fs.1.fit }, spelled)
 
 -- ---- the way back
 
-function_again : (count : ℕ) (f : LinkedFn) (at : ℕ) (behind : List ℕ) → IsLinkedFn f → IsLinkedCode count f.code
+pub function_again : (count : ℕ) (f : LinkedFn) (at : ℕ) (behind : List ℕ) → IsLinkedFn f → IsLinkedCode count f.code
     → (to : ℕ) × (function_at count (record { at = at; bytes = function_spelling f ++ behind }) ≡ Ok (f, record { at = to; bytes = behind }))
 unfolding function_at
 function_again count f at behind own linked =
@@ -139,16 +151,19 @@ function_again count f at behind own linked =
           ∙ rw (number_again w16 (2 ^ 16) wide16 (length f.code) (at + 1 + 1 + 1) (f.code ++ behind) own.short, block_again f.code (at + 1 + 1 + 1 + 2) behind, code_fault-linked count (at + 1 + 1 + 1 + 2) f.code linked) refl,
     )
 
-functions_again : (count : ℕ) (fs : List LinkedFn) (at : ℕ) (behind : List ℕ) → AllByRecursion IsLinkedFn fs → AllByRecursion (λ f. IsLinkedCode count f.code) fs
-    → (to : ℕ) × (functions_at count (length fs) (record { at = at; bytes = flat_map function_spelling fs ++ behind }) ≡ Ok (fs, record { at = to; bytes = behind }))
-unfolding functions_at
-functions_again count [] at behind own linked = (at, refl)
-functions_again count (f ∷ fs) at behind own linked =
+functions_again : (count : ℕ) (front fs : List LinkedFn) (at : ℕ) (behind : List ℕ) → AllByRecursion IsLinkedFn fs → AllByRecursion (λ f. IsLinkedCode count f.code) fs
+    → (to : ℕ) × (items_at (linked_behind count) (length fs) front (record { at = at; bytes = flat_map function_spelling fs ++ behind }) ≡ Ok (front ++ fs, record { at = to; bytes = behind }))
+unfolding items_at linked_behind
+functions_again count front [] at behind own linked = (at, ap (λ (fs : List LinkedFn). Ok (fs, record { at = at; bytes = behind })) (sym (append-nil front)))
+functions_again count front (f ∷ fs) at behind own linked =
     let more = flat_map function_spelling fs ++ behind in
     let first = function_again count f at more own.0 linked.0 in
-    let others = functions_again count fs first.0 behind own.1 linked.1 in
-    let regrouped : flat_map function_spelling (f ∷ fs) ++ behind ≡ function_spelling f ++ more = append_assoc (function_spelling f) (flat_map function_spelling fs) behind in
-    (others.0, ap (λ (x : List ℕ). functions_at count (suc (length fs)) (record { at = at; bytes = x })) regrouped ∙ rw (first.1, others.1) refl)
+    let others = functions_again count (front ++ f ∷ []) fs first.0 behind own.1 linked.1 in
+    let regrouped : flat_map function_spelling (f ∷ fs) ++ behind ≡ function_spelling f ++ more = append_assoc (function_spelling f) (flat_map function_spelling fs) behind in (
+      others.0,
+      ap (λ (x : List ℕ). items_at (linked_behind count) (suc (length fs)) front (record { at = at; bytes = x })) regrouped
+          ∙ rw first.1 others.1 ∙ ap (λ (x : List LinkedFn). Ok (x, record { at = others.0; bytes = behind })) (append_assoc front (f ∷ []) fs),
+    )
 
 counts_again : (entry count at : ℕ) (behind : List ℕ) → entry < count → count < 2 ^ 32
     → counts_at (record { at = at; bytes = to_be_bytes w32 entry ++ (to_be_bytes w32 count ++ behind) }) ≡ Ok (entry, count, record { at = at + 4 + 4; bytes = behind })
@@ -158,10 +173,7 @@ counts_again entry count at behind below fits =
 
 head_fixed : (behind : List ℕ) → head_at (record { at = 0; bytes = image_magic ++ behind }) ≡ counts_at (record { at = 6; bytes = behind })
 unfolding head_at
-head_fixed behind =
-    let magic : List ℕ = 0x4c ∷ 0x52 ∷ 0x50 ∷ 0x58 ∷ [] in
-    let one : List ℕ = 0 ∷ 1 ∷ [] in
-    rw (fixed_again magic Magic 0 (one ++ behind), fixed_again one Version 4 behind) refl
+head_fixed behind = rw (opening_again (0x4c ∷ 0x52 ∷ 0x50 ∷ 0x58 ∷ []) behind) refl
 
 head_again : (entry count : ℕ) (behind : List ℕ) → entry < count → count < 2 ^ 32
     → head_at (record { at = 0; bytes = image_magic ++ (to_be_bytes w32 entry ++ (to_be_bytes w32 count ++ behind)) }) ≡ Ok (entry, count, record { at = 14; bytes = behind })
@@ -175,8 +187,8 @@ image_again i h =
     let body = flat_map function_spelling i.functions in
     let regrouped : image_spelling i ≡ image_magic ++ (to_be_bytes w32 i.entry ++ (to_be_bytes w32 n ++ body)) = refl in
     let head = head_again i.entry n body h.linked.entry h.linked.count in
-    let fs = functions_again n i.functions 14 [] h.each h.linked.calls in
-    let read : functions_at n n (record { at = 14; bytes = body }) ≡ Ok (i.functions, record { at = fs.0; bytes = [] }) = ap (λ (x : List ℕ). functions_at n n (record { at = 14; bytes = x })) (sym (append-nil body)) ∙ fs.1 in
+    let fs = functions_again n [] i.functions 14 [] h.each h.linked.calls in
+    let read : items_at (linked_behind n) n [] (record { at = 14; bytes = body }) ≡ Ok (i.functions, record { at = fs.0; bytes = [] }) = ap (λ (x : List ℕ). items_at (linked_behind n) n [] (record { at = 14; bytes = x })) (sym (append-nil body)) ∙ fs.1 in
     ap image_at regrouped ∙ rw (head, read) refl
 
 pub is_found : (bytes : List ℕ) (r : Result Linked (OrMemory BadFile)) → IsBytes bytes → Answers (λ x. x) r (image_at bytes) → IfOk r (λ i. IsImage i × (bytes ≡ image_spelling i))

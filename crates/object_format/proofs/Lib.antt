@@ -1,6 +1,12 @@
+pub mod CallFaults
 pub mod CodeFaults
 pub mod CodeLemmas
+pub mod Distinct
 pub mod Fields
 pub mod Images
+pub mod Items
+pub mod ObjectFields
+pub mod Objects
 pub mod Opcodes
-pub mod ReadLoop
+pub mod SymbolTests
+mod WorkedObjects

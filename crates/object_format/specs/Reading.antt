@@ -1,5 +1,5 @@
--- Reading an image from left to right, with the first fault that is met.
-use Rattle.std.specs.Prelude.{◌≡◌, ◌≤◌, ℕ, zero, suc, ◌+◌, List, [], ◌∷◌, length, take, drop, Option, Some, None, Result, Ok, Err, Bool, true, false, nat_lt, ◌==◌, if◌then◌else◌}
+-- Reading a file from left to right, with the first fault that is met: the fields that files are made of, code, and images.
+use Rattle.std.specs.Prelude.{◌≡◌, ◌≤◌, ℕ, zero, suc, ◌+◌, List, [], ◌∷◌, ◌++◌, length, take, drop, Option, Some, None, Result, Ok, Err, Bool, true, false, nat_lt, ◌==◌, if◌then◌else◌}
 use Rattle.std.specs.Int.{Width, w16, w32, byte_len, from_be_bytes}
 use Rattle.std.specs.Str.{bytes_eq}
 use Rattle.object_format.specs.Opcode.{row, opcode_of}
@@ -49,6 +49,23 @@ fixed_at text what r =
     if nat_lt (length r.bytes) (length text) then refused r.at Short
     else (if bytes_eq (take (length text) r.bytes) text then Ok (after (length text) r) else refused r.at what)
 
+-- the magic of a format, and version 1
+unfoldable pub opening_at : List ℕ → Rest → Result Rest BadFile
+opening_at magic r = do
+  version ← fixed_at magic Magic r
+  fixed_at (0 ∷ 1 ∷ []) Version version
+
+-- nothing more
+abbrev pub end_at : Rest → Result (Unit {0}) BadFile
+end_at r = if length r.bytes == 0 then Ok tt else refused r.at Trailing
+
+-- so many items, each of them read behind what was read so far
+unfoldable pub items_at : {A : Type 0} → (A → Rest → Result (A × Rest) BadFile) → ℕ → A → Rest → Result (A × Rest) BadFile
+items_at read zero so_far r = Ok (so_far, r)
+items_at read (suc n) so_far r = do
+  next ← read so_far r
+  items_at read n next.0 next.1
+
 -- ---- code
 
 -- the bytes of operand behind a byte of code
@@ -89,29 +106,27 @@ EndsInstruction count at code offset byte (Ok end) =
     × (end ≤ length code)
 EndsInstruction count at code offset byte (Err f) = instruction_fault count (at + offset) (opcode_of byte) (drop (offset + 1) code) ≡ Some f
 
--- ---- the image
-
 abbrev pub unless : {A : Type 0} → Option BadFile → A → Result A BadFile
 unless (Some f) x = Err f
 unless None x = Ok x
 
--- a function of an image with so many functions
+-- ---- the image
+
+-- a function of a file in which calls have so many callees
 unfoldable pub function_at : ℕ → Rest → Result (LinkedFn × Rest) BadFile
-function_at count r = do
+function_at callees r = do
   params ← byte_at r
   results ← byte_at params.1
   slots ← byte_at results.1
   len ← number_at w16 slots.1
   code ← block_at len.0 len.1
-  unless (code_fault count len.1.at 0 code.0) (record { params = params.0; «result» = results.0; slots = slots.0; code = code.0 }, code.1)
+  unless (code_fault callees len.1.at 0 code.0) (record { params = params.0; «result» = results.0; slots = slots.0; code = code.0 }, code.1)
 
--- n functions
-unfoldable pub functions_at : ℕ → ℕ → Rest → Result (List LinkedFn × Rest) BadFile
-functions_at count zero r = Ok ([], r)
-functions_at count (suc n) r = do
-  first ← function_at count r
-  others ← functions_at count n first.1
-  Ok (first.0 ∷ others.0, others.1)
+-- one function more of an image with so many functions
+unfoldable pub linked_behind : ℕ → List LinkedFn → Rest → Result (List LinkedFn × Rest) BadFile
+linked_behind count so_far r = do
+  function ← function_at count r
+  Ok (so_far ++ function.0 ∷ [], function.1)
 
 -- the entry and the count of functions; the entry is looked at once the count is read
 unfoldable pub counts_at : Rest → Result (ℕ × ℕ × Rest) BadFile
@@ -123,13 +138,13 @@ counts_at r = do
 -- magic and version, then the entry and the count
 unfoldable pub head_at : Rest → Result (ℕ × ℕ × Rest) BadFile
 head_at r = do
-  magic ← fixed_at (0x4c ∷ 0x52 ∷ 0x50 ∷ 0x58 ∷ []) Magic r
-  version ← fixed_at (0 ∷ 1 ∷ []) Version magic
-  counts_at version
+  body ← opening_at (0x4c ∷ 0x52 ∷ 0x50 ∷ 0x58 ∷ []) r
+  counts_at body
 
 -- an image, all of the bytes
 unfoldable pub image_at : List ℕ → Result Linked BadFile
 image_at bytes = do
   head ← head_at (record { at = 0; bytes = bytes })
-  functions ← functions_at head.1 head.1 head.2
-  if length functions.1.bytes == 0 then Ok (record { entry = head.0; functions = functions.0 }) else refused functions.1.at Trailing
+  functions ← items_at (linked_behind head.1) head.1 [] head.2
+  nothing ← end_at functions.1
+  Ok (record { entry = head.0; functions = functions.0 })

@@ -1,7 +1,7 @@
 ghost use Rattle.std.specs.Prelude.{◌<◌, length};
 
 use super::*;
-use lar_tree::{Bytes, OrMemory};
+use lar_bytes::{Bytes, OrMemory};
 use std::alloc::{AllocError, Global};
 use std::test::Fail;
 
