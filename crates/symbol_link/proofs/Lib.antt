@@ -1,0 +1,11 @@
+pub mod Apart
+pub mod Checked
+pub mod Defined
+pub mod Examples
+pub mod Joined
+pub mod Laws
+pub mod Lengths
+pub mod Moved
+pub mod Options
+pub mod Outcome
+pub mod Places

@@ -1,0 +1,10 @@
+pub mod Callees
+pub mod Copying
+pub mod Defining
+pub mod Faults
+pub mod Found
+pub mod Joining
+pub mod Linked
+pub mod Relocation
+pub mod Sizes
+pub mod Symbols
