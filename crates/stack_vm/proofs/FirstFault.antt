@@ -1,10 +1,9 @@
 -- The first fault of instructions, one after the other.
-use Rattle.std.proofs.Common.{◌≡◌, ℕ, ◌+◌, ◌<◌, ◌≤◌, List, [], ◌∷◌, length, drop, get_or, Option, Some, None, Bool, true, false, eqb, refl, arith, sym, ◌∙◌, ap, subst, inl, inr, pos}
+use Rattle.std.proofs.Common.{◌≡◌, ℕ, ◌+◌, ◌<◌, ◌≤◌, List, length, drop, get_or, Option, eqb, arith, sym, ◌∙◌, ap, inl, inr}
 use Rattle.std.proofs.lemmas.Bool.{cases_eq, eq-eqb, ne_eqb}
 use Rattle.std.proofs.lemmas.List.{drop_more, drop_all}
 use Rattle.object_format.specs.Image.{LinkedFn}
 use Rattle.object_format.specs.Reading.{or_later}
-use Rattle.object_format.specs.declared.fault.BadFile.{BadFile}
 use Rattle.object_format.specs.declared.fault.What.{What}
 use Rattle.stack_vm.specs.Faults.{word_at, fault_if, is_empty, code_faults, is_crossed, height_at}
 use Rattle.stack_vm.specs.declared.instruction.Placed.{Placed}

@@ -1,10 +1,10 @@
 -- What stays true of the frames when a function is called, when it returns, and when it goes on.
-use Rattle.std.proofs.Common.{◌≡◌, ℕ, ◌+◌, ◌-◌, ◌*◌, ◌<◌, ◌≤◌, List, [], ◌∷◌, ◌++◌, length, slice_get, Some, reverse, arith, refl, subst, sym, length-append, get_or, ap, Option}
+use Rattle.std.proofs.Common.{◌≡◌, ℕ, ◌+◌, ◌-◌, ◌<◌, ◌≤◌, List, [], ◌∷◌, ◌++◌, length, slice_get, Some, reverse, arith, subst, sym, length-append, get_or, ap, Option}
 use Rattle.std.proofs.lemmas.List.{reverse-append, length-reverse}
 use Rattle.std.proofs.lemmas.Option.{slice_get-get_or}
 use Rattle.std.proofs.lemmas.Option.{slice_get_within}
 use Rattle.stack_vm.specs.Sound.{Leaves, IsSound, At}
-use Rattle.stack_vm.specs.Standing.{height, Runs, RunsOn, CanCall, Stands, Waits, begun, waiting, resumed}
+use Rattle.stack_vm.specs.Standing.{height, Runs, RunsOn, Stands, Waits, begun, waiting, resumed}
 use Rattle.object_format.specs.Image.{LinkedFn, IsLinkedFn}
 use Rattle.stack_vm.specs.Heights.{greatest_of}
 use Rattle.stack_vm.specs.declared.machine.State.{State}

@@ -1,4 +1,5 @@
 pub mod Crossed
+pub mod Defined
 pub mod FirstFault
 pub mod Frames
 pub mod Listing
@@ -14,5 +15,6 @@ pub mod Stack
 pub mod Starting
 pub mod Stays
 pub mod Stops
+pub mod Swept
 pub mod Texts
 pub mod Turns

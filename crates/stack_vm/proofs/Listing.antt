@@ -1,13 +1,12 @@
 -- The instructions of code, one after the other.
-use Rattle.std.proofs.Common.{◌≡◌, ℕ, zero, suc, ◌+◌, ◌-◌, ◌<◌, ◌≤◌, List, [], ◌∷◌, ◌++◌, length, drop, take, get_or, Option, Some, None, Bool, true, false, ltb, cond, refl, sym, ap, ◌∙◌, arith, subst, inl, inr, append_assoc}
+use Rattle.std.proofs.Common.{◌≡◌, ℕ, zero, suc, ◌+◌, ◌-◌, ◌<◌, ◌≤◌, List, [], ◌∷◌, ◌++◌, length, drop, Option, Some, None, ltb, refl, sym, ap, ◌∙◌, arith, subst, inl, inr}
 use Rattle.std.specs.Prelude.{slice_index}
-use Rattle.std.proofs.lemmas.Bool.{ltb-false, le-ltb, cases_Bool}
+use Rattle.std.proofs.lemmas.Bool.{ltb-false, cases_Bool}
 use Rattle.std.proofs.lemmas.List.{length-drop, drop-drop, drop_more}
 use Rattle.object_format.specs.Opcode.{row, opcode_of}
-use Rattle.object_format.specs.Reading.{code_fault, instruction_fault, or_later, operand_of}
+use Rattle.object_format.specs.Reading.{code_fault, instruction_fault, operand_of}
 use Rattle.object_format.specs.declared.opcode.Opcode.{Opcode}
 use Rattle.object_format.specs.declared.opcode.Opcode.TheVariants as op
-use Rattle.object_format.specs.declared.fault.BadFile.{BadFile}
 use Rattle.object_format.proofs.CodeFaults.{code_fault-at, code_fault-skip, or_later-none, fine_parts}
 use Rattle.stack_vm.specs.Instruction.{opcode, size, read_as, begun_by, IsThere, placed}
 use Rattle.stack_vm.specs.declared.instruction.Instruction.{Instruction}

@@ -1,19 +1,18 @@
 -- One turn of a run, from the stack to the functions at work.
-use Rattle.std.proofs.Common.{◌≡◌, ℕ, zero, suc, ◌+◌, ◌-◌, ◌*◌, ◌<◌, ◌≤◌, List, [], ◌∷◌, ◌++◌, length, take, drop, reverse, replicate, slice_get, ℤ, pos, Bool, true, false, Option, Some, None, Result, Ok, Err, refl, arith, sym, ◌∙◌, ap, subst, append_assoc, append-nil, length-append, length-drop}
+use Rattle.std.proofs.Common.{◌≡◌, ℕ, suc, ◌+◌, ◌-◌, ◌≤◌, List, [], ◌∷◌, ◌++◌, length, take, drop, reverse, replicate, slice_get, ℤ, pos, false, Option, Some, None, refl, arith, sym, ◌∙◌, ap, subst, append_assoc, append-nil, length-drop}
 use Rattle.std.specs.Prelude.{IfSome}
 use Rattle.std.specs.Io.KnownBytes.{append_known}
-use Rattle.std.proofs.lemmas.List.{length-take, take-take, take-append-le, reverse-append, take_all}
+use Rattle.std.proofs.lemmas.List.{length-take, take-take, take-append-le, reverse-append}
 use Rattle.object_format.specs.Image.{LinkedFn}
 use Rattle.outside.specs.Counts.{Rose}
 use Rattle.outside.specs.Fronts.{AppendsFront}
-use Rattle.stack_vm.specs.Instruction.{takes, instruction_at}
-use Rattle.stack_vm.specs.Heights.{greatest_of}
-use Rattle.stack_vm.specs.Effect.{under, pushes, goes_on, after, is_inner, is_print, Did}
-use Rattle.stack_vm.specs.Sound.{IsFine, Leaves, At}
-use Rattle.stack_vm.specs.Standing.{height, Stands, Called, TooDeep, begun, waiting, resumed}
+use Rattle.stack_vm.specs.Instruction.{instruction_at}
+use Rattle.stack_vm.specs.Effect.{under, is_print, Did}
+use Rattle.stack_vm.specs.Sound.{IsFine}
+use Rattle.stack_vm.specs.Standing.{height, Stands, Called, TooDeep, waiting, resumed}
 use Rattle.stack_vm.specs.SinkState.{SinkState, with_text}
-use Rattle.stack_vm.specs.Acts.{Act, Outcome, Goes, Ends, Traps, Stuck, step, turn, runs, prints, line_of, calling, returning, words_of, Ran, after_text, trap_at}
-use Rattle.stack_vm.specs.Running.{act, acts, seen, frame_act, slots_count, Counted, FrontOf}
+use Rattle.stack_vm.specs.Acts.{Act, Outcome, Goes, Ends, Traps, step, turn, runs, prints, line_of, calling, Ran, after_text}
+use Rattle.stack_vm.specs.Running.{act, acts, seen, slots_count, Counted, FrontIf}
 use Rattle.stack_vm.specs.declared.end.Kind.{Kind}
 use Rattle.stack_vm.specs.declared.end.Kind.TheVariants as kinds
 use Rattle.stack_vm.specs.declared.end.End.{End}
@@ -22,14 +21,13 @@ use Rattle.stack_vm.specs.declared.instruction.Instruction.{Instruction}
 use Rattle.stack_vm.specs.declared.instruction.Instruction.TheVariants.{Call, Return, Print}
 use Rattle.stack_vm.specs.declared.machine.State.{State}
 use Rattle.stack_vm.specs.declared.machine.Frame.{Frame}
-use Rattle.stack_vm.specs.declared.machine.Next.{Next}
 use Rattle.stack_vm.specs.declared.machine.Next.TheVariants as next
 use Rattle.stack_vm.proofs.Frames.{the_same}
-use Rattle.stack_vm.proofs.Places.{at_greatest, at_within}
-use Rattle.stack_vm.specs.Standing.{Runs, Waits}
-use Rattle.stack_vm.proofs.Moves.{moves, fine_room, obey_inner}
+use Rattle.stack_vm.proofs.Places.{at_greatest}
+use Rattle.stack_vm.specs.Standing.{Waits}
+use Rattle.stack_vm.proofs.Moves.{moves, fine_room}
 use Rattle.stack_vm.proofs.Stays.{stays}
-use Rattle.stack_vm.proofs.Stops.{after_front, traps, too_deep}
+use Rattle.stack_vm.proofs.Stops.{after_front, too_deep}
 use Rattle.stack_vm.proofs.Turns.{calls, returns, counted_is}
 use Rattle.stack_vm.proofs.Texts.{append_known-append, append_known-nil}
 
@@ -103,7 +101,7 @@ front_if (Some r) held now put before a = record {
 
 -- a put that did not take all of what was kept
 pub front_of : (fs : List LinkedFn) (f0 : LinkedFn) (s0 : State) (frames0 : List Frame) (V0 : List ℤ) (steps : ℕ) (f : LinkedFn) (s : State) (frames : List Frame) (V : List ℤ) (left : ℕ) (old new newer : SinkState) (kept : List ℕ)
-    → Going fs f0 s0 frames0 V0 steps f s frames V left old new kept → AppendsFront new.held newer.held kept → FrontOf (runs fs steps (acts fs f0 s0 frames0 V0)) old newer
+    → Going fs f0 s0 frames0 V0 steps f s frames V left old new kept → AppendsFront new.held newer.held kept → FrontIf (runs fs steps (acts fs f0 s0 frames0 V0)) old newer
 front_of fs f0 s0 frames0 V0 steps f s frames V left old new newer kept g a =
     let front : AppendsFront (append_known old.held g.put) newer.held kept = subst (λ (n : SinkState). AppendsFront n.held newer.held kept) g.told a in
     subst (λ (w : Option Ran). IfSome w (λ ran. AppendsFront old.held newer.held ran.text)) g.whole (front_if (runs fs left (acts fs f s frames V)) old.held newer.held g.put kept front)

@@ -1,19 +1,17 @@
 -- A step that stays in its function, from the stack to the acts.
-use Rattle.std.proofs.Common.{◌≡◌, ℕ, zero, suc, ◌+◌, ◌-◌, ◌*◌, ◌<◌, ◌≤◌, List, [], ◌∷◌, ◌++◌, length, take, drop, slice_get, ℤ, pos, Bool, true, false, Option, Some, None, Result, Ok, Err, refl, arith, sym, ◌∙◌, ap, subst}
+use Rattle.std.proofs.Common.{◌≡◌, ℕ, ◌+◌, ◌≤◌, List, ◌∷◌, length, slice_get, ℤ, true, Some, refl, arith, ◌∙◌}
 use Rattle.stack_vm.specs.Instruction.{takes, instruction_at}
-use Rattle.stack_vm.specs.Effect.{under, pushes, goes_on, after, is_inner, Did}
-use Rattle.stack_vm.specs.Sound.{IsFine, Leaves}
+use Rattle.stack_vm.specs.Effect.{under, is_inner, Did}
+use Rattle.stack_vm.specs.Sound.{IsFine}
 use Rattle.stack_vm.specs.Standing.{height}
 use Rattle.stack_vm.specs.Running.{act}
-use Rattle.stack_vm.specs.Acts.{Act, Outcome, Goes, Ends, Traps, Stuck, staying, obey, step, turn, runs, prints, has_slot}
+use Rattle.stack_vm.specs.Acts.{Act, Goes, staying, obey, step, prints, has_slot}
 use Rattle.stack_vm.proofs.Stays.{stays, below_is}
 use Rattle.stack_vm.specs.declared.instruction.Instruction.{Instruction}
 use Rattle.stack_vm.specs.declared.instruction.Instruction.TheVariants.{Push8, Push64, Load, Store, Pop, Dup, Nop, Add, Sub, Mul, Div, Rem, Neg, Equal, NotEqual, Less, AtMost, Greater, AtLeast, Not, Jump, JumpZero, Call, Return, Print, Trap}
 use Rattle.object_format.specs.Image.{LinkedFn}
 use Rattle.stack_vm.specs.declared.machine.State.{State}
-use Rattle.stack_vm.specs.declared.machine.Next.{Next}
 use Rattle.stack_vm.specs.declared.machine.Next.TheVariants as next
-use Rattle.stack_vm.specs.declared.end.End.{End}
 
 -- an instruction that is fine finds its words and its slot
 pub fine_room : (fs : List LinkedFn) (f : LinkedFn) (place h : ℕ) (i : Instruction) → IsFine fs f place h i → is_inner i ≡ true → (takes i ≤ h) × (has_slot i f.slots ≡ true)

@@ -1,7 +1,7 @@
 -- Where the instructions of code stand: below its length, and not more of them than bytes.
-use Rattle.std.proofs.Common.{◌≡◌, ℕ, zero, suc, ◌+◌, ◌-◌, ◌^◌, ◌<◌, ◌≤◌, List, [], ◌∷◌, ◌++◌, length, replicate, Option, Some, None, Bool, true, false, ltb, eqb, cond, refl, sym, ap, ◌∙◌, arith, subst, slice_get, get_or}
+use Rattle.std.proofs.Common.{◌≡◌, ℕ, zero, suc, ◌+◌, ◌-◌, ◌^◌, ◌<◌, ◌≤◌, List, [], ◌∷◌, ◌++◌, length, replicate, Option, Some, None, Bool, true, false, ltb, cond, refl, sym, ap, arith, subst, slice_get, get_or}
 use Rattle.std.specs.List.{AllByRecursion}
-use Rattle.std.proofs.lemmas.Bool.{ne_eqb, cases_lt}
+use Rattle.std.proofs.lemmas.Bool.{ne_eqb}
 use Rattle.std.proofs.lemmas.Option.{slice_get-get_or}
 use Rattle.std.proofs.lemmas.List.{length-append, get_or-replicate, length-replicate}
 use Rattle.object_format.specs.Image.{LinkedFn}
@@ -9,11 +9,11 @@ use Rattle.object_format.specs.Opcode.{row, opcode_of}
 use Rattle.object_format.specs.Reading.{operand_of}
 use Rattle.object_format.specs.declared.opcode.Opcode.{Opcode}
 use Rattle.stack_vm.specs.Instruction.{begun_by, placed, read_as, instructions}
-use Rattle.stack_vm.specs.Heights.{Before, heights, next, here, first_at, at_start, heights_of, Shows, as_number}
+use Rattle.stack_vm.specs.Heights.{Before, heights, next, first_at, at_start, heights_of, Shows}
 use Rattle.stack_vm.specs.Faults.{IsWithin}
 use Rattle.stack_vm.specs.declared.instruction.Placed.{Placed}
 
-all-append : (P : Placed → Type 0) (xs ys : List Placed) → AllByRecursion P xs → AllByRecursion P ys → AllByRecursion P (xs ++ ys)
+pub all-append : (P : Placed → Type 0) (xs ys : List Placed) → AllByRecursion P xs → AllByRecursion P ys → AllByRecursion P (xs ++ ys)
 all-append P [] ys p q = q
 all-append P (x ∷ xs) ys p q = (p.0, all-append P xs ys p.1 q)
 

@@ -1,5 +1,5 @@
 -- Words that are cleared and moved, one after the other.
-use Rattle.std.proofs.Common.{◌≡◌, ℕ, ◌+◌, ◌-◌, ◌<◌, ◌≤◌, List, [], ◌∷◌, ◌++◌, length, take, drop, get_or, set, replicate, ℤ, pos, refl, arith, sym, subst, ◌∙◌, ap, append_assoc, length-drop}
+use Rattle.std.proofs.Common.{◌≡◌, ℕ, ◌+◌, ◌-◌, ◌<◌, ◌≤◌, List, [], ◌∷◌, ◌++◌, length, take, drop, get_or, set, replicate, ℤ, pos, arith, sym, subst, ◌∙◌, ap, append_assoc, length-drop}
 use Rattle.std.proofs.lemmas.List.{take_more_set, take_more, drop-set-lt, get_or-drop, replicate-append-replicate, drop-drop}
 
 pub cleared : (words old : List ℤ) (from at : ℕ) → from ≤ at → at < length words → take at words ≡ take from old ++ replicate (at - from) (pos 0)

@@ -1,5 +1,5 @@
 -- Heights by offset, as a list of numbers shows them.
-use Rattle.std.proofs.Common.{◌≡◌, ◌≢◌, ℕ, ◌+◌, ◌-◌, ◌<◌, ◌≤◌, ◌^◌, List, [], ◌∷◌, ◌++◌, length, slice_index, slice_set, set, Option, Some, None, Bool, true, false, refl, arith, eqb, if◌then◌else◌, get_or-set_other, get_or-set_same, length-set, inl, inr, sym, ◌∙◌, ap}
+use Rattle.std.proofs.Common.{◌≡◌, ◌≢◌, ℕ, ◌+◌, ◌-◌, ◌<◌, ◌≤◌, List, [], ◌∷◌, ◌++◌, length, slice_index, slice_set, Option, Some, None, Bool, true, false, refl, arith, eqb, if◌then◌else◌, get_or-set_other, get_or-set_same, length-set, inl, inr, sym, ◌∙◌, ap}
 use Rattle.std.proofs.lemmas.Bool.{cases_eq}
 use Rattle.std.proofs.lemmas.Bool.Decides.{nat_tests}
 use Rattle.stack_vm.specs.Heights.{first_at, as_number, Shows}
@@ -11,6 +11,10 @@ or_else None o = o
 chosen : (b : Bool) (x : ℕ) (o p : Option ℕ) → (if b then Some x else or_else o p) ≡ or_else (if b then Some x else o) p
 chosen true x o p = refl
 chosen false x o p = refl
+
+pub first_at-append : (xs ys : List (ℕ × ℕ)) (t : ℕ) → first_at (xs ++ ys) t ≡ or_else (first_at xs t) (first_at ys t)
+first_at-append [] ys t = refl
+first_at-append (x ∷ xs) ys t = ap (λ (o : Option ℕ). if eqb x.0 t then Some x.1 else o) (first_at-append xs ys t) ∙ chosen (eqb x.0 t) x.1 (first_at xs t) (first_at ys t)
 
 -- one more jump
 pub added : (js : List (ℕ × ℕ)) (to left t : ℕ) → first_at (js ++ (to, left) ∷ []) t ≡ or_else (first_at js t) (if eqb to t then Some left else None)
@@ -33,10 +37,10 @@ none_there : (o : Option ℕ) (limit : ℕ) → (((x : ℕ) → o ≡ Some x →
 none_there None limit p l e = refl
 none_there (Some x) limit p l e = absurd (omega (arith, p x refl, e))
 
-not_same : (to t : ℕ) → (to ≡ t → ⊥) → eqb to t ≡ false
+pub not_same : (to t : ℕ) → (to ≡ t → ⊥) → eqb to t ≡ false
 not_same to t h = grind (arith, nat_tests)
 
-the_same : (t : ℕ) → eqb t t ≡ true
+pub the_same : (t : ℕ) → eqb t t ≡ true
 the_same t = grind (arith, nat_tests)
 
 at_same : (o : Option ℕ) (b : Bool) (left : ℕ) → o ≡ None → b ≡ true → as_number (or_else o (if b then Some left else None)) ≡ left

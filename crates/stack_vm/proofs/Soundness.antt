@@ -1,24 +1,22 @@
 -- A function without a fault is sound: each of its instructions finds its words and its slot, and leads to an instruction with the height that it leaves.
-use Rattle.std.proofs.Common.{◌≡◌, ℕ, zero, suc, ◌+◌, ◌-◌, ◌<◌, ◌≤◌, List, [], ◌∷◌, ◌++◌, length, drop, take, get_or, Option, Some, None, Bool, true, false, ltb, leb, eqb, cond, not, ◌&&◌, ◌||◌, refl, sym, ap, ◌∙◌, arith, subst, inl, inr, ◌⊎◌, slice_get, unwrap_or}
+use Rattle.std.proofs.Common.{◌≡◌, ℕ, zero, suc, ◌+◌, ◌-◌, ◌<◌, ◌≤◌, List, [], ◌∷◌, ◌++◌, length, drop, take, get_or, Option, Some, None, Bool, true, false, ltb, leb, eqb, cond, not, ◌&&◌, ◌||◌, refl, sym, ap, ◌∙◌, arith, subst, inl, inr, unwrap_or}
 use Rattle.std.specs.Prelude.{slice_index, is_none}
 use Rattle.std.specs.Int.{w32, from_be_bytes}
-use Rattle.std.specs.List.{AllByRecursion}
 use Rattle.std.proofs.lemmas.Bool.{ltb-false, leb-false, eqb-true, eq-eqb, ne_eqb, cases_Bool, cases_lt, cases_eq}
 use Rattle.std.proofs.lemmas.List.{length-drop, get_or-drop, drop-drop}
 use Rattle.object_format.specs.Image.{LinkedFn}
 use Rattle.object_format.specs.Opcode.{row, opcode_of}
 use Rattle.object_format.specs.Code.{IsLinkedCode}
-use Rattle.object_format.specs.Reading.{code_fault, instruction_fault, call_fault, is_call, or_later, operand_of}
+use Rattle.object_format.specs.Reading.{code_fault, instruction_fault, call_fault, is_call, operand_of}
 use Rattle.object_format.specs.declared.opcode.Opcode.{Opcode}
 use Rattle.object_format.specs.declared.opcode.Opcode.TheVariants as op
-use Rattle.object_format.specs.declared.fault.BadFile.{BadFile}
 use Rattle.object_format.specs.declared.fault.What.{What}
 use Rattle.object_format.specs.declared.fault.What.TheVariants as word
 use Rattle.object_format.proofs.CodeFaults.{or_later-none, fine_parts, call_below, code_fault-linked}
-use Rattle.stack_vm.specs.Instruction.{opcode, size, takes, read_as, begun_by, placed, instructions, find_at, instruction_at, IsThere}
-use Rattle.stack_vm.specs.Heights.{taken, pushed, left_by, jumps_to, handed_on, Before, here, next, heights, at_start, heights_of, first_at}
+use Rattle.stack_vm.specs.Instruction.{size, read_as, begun_by, placed, instructions, find_at, IsThere}
+use Rattle.stack_vm.specs.Heights.{taken, left_by, jumps_to, handed_on, Before, here, next, heights, at_start, heights_of, first_at}
 use Rattle.stack_vm.specs.Faults.{misses, lacks_slot, is_return, may_end, brings_other, height_at, is_crossed, word_at, fault_if, is_empty, code_faults, function_fault}
-use Rattle.stack_vm.specs.Sound.{At, Leaves, IsFine, Fine, IsSound}
+use Rattle.stack_vm.specs.Sound.{At, Leaves, IsFine, IsSound}
 use Rattle.stack_vm.specs.declared.instruction.Instruction.{Instruction}
 use Rattle.stack_vm.specs.declared.instruction.Instruction.TheVariants.{Push8, Push64, Load, Store, Pop, Dup, Nop, Add, Sub, Mul, Div, Rem, Neg, Equal, NotEqual, Less, AtMost, Greater, AtLeast, Not, Jump, JumpZero, Call, Return, Print, Trap}
 use Rattle.stack_vm.specs.declared.instruction.Placed.{Placed}

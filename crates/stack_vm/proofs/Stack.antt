@@ -1,6 +1,6 @@
 -- The parts of a stack, where its front stays and more is put behind it.
-use Rattle.std.proofs.Common.{◌≡◌, ℕ, ◌+◌, ◌-◌, ◌*◌, ◌<◌, ◌≤◌, List, [], ◌∷◌, ◌++◌, length, take, drop, get_or, slice_get, slice_set, set, ℤ, pos, Bool, true, false, Option, Some, None, Result, Ok, Err, refl, arith, sym, ◌∙◌, ap, subst, length-append, length-drop, drop-cons, append-nil}
-use Rattle.std.proofs.lemmas.List.{length-take, get_or-drop, get_or-take, drop-take, take-append-le, drop-append-le, take-set-le, drop-set-lt, drop-set-add, take-take}
+use Rattle.std.proofs.Common.{◌≡◌, ℕ, ◌+◌, ◌-◌, ◌<◌, ◌≤◌, List, ◌++◌, length, take, drop, get_or, slice_set, ℤ, pos, arith, ◌∙◌, ap, length-drop}
+use Rattle.std.proofs.lemmas.List.{length-take, get_or-drop, drop-take, take-append-le, drop-append-le, take-set-le, drop-set-lt, drop-set-add, take-take}
 use Rattle.std.proofs.Math.Seq.{take-set-lt}
 use Rattle.stack_vm.specs.Effect.{under}
 

@@ -1,26 +1,24 @@
 -- A valid image is sound, and its run begins as the machine's does; and how the last text is put.
-use Rattle.std.proofs.Common.{◌≡◌, ◌≢◌, ℕ, zero, suc, ◌+◌, ◌-◌, ◌<◌, ◌≤◌, List, [], ◌∷◌, ◌++◌, length, take, drop, reverse, replicate, slice_get, ℤ, pos, Bool, true, false, Option, Some, None, refl, arith, sym, ◌∙◌, ap, subst, append_assoc, append-nil}
-use Rattle.std.specs.Prelude.{IfSome}
+use Rattle.std.proofs.Common.{◌≡◌, ◌≢◌, ℕ, zero, suc, ◌+◌, ◌-◌, ◌<◌, ◌≤◌, List, [], ◌∷◌, ◌++◌, length, take, drop, replicate, slice_get, ℤ, pos, Option, Some, None, refl, arith, ◌∙◌, ap, subst, append_assoc}
 use Rattle.std.specs.List.{AllByRecursion}
 use Rattle.std.specs.Io.KnownBytes.{append_known}
-use Rattle.std.proofs.lemmas.List.{length-take, take_all, drop_all, length-replicate}
+use Rattle.std.proofs.lemmas.List.{take_all, drop_all, length-replicate}
 use Rattle.object_format.specs.Code.{IsLinkedCode}
 use Rattle.object_format.specs.Image.{LinkedFn, Linked, IsLinked, IsLinkedFn}
 use Rattle.object_format.proofs.CodeFaults.{or_later-none}
 use Rattle.outside.specs.Counts.{Rose}
 use Rattle.outside.specs.Fronts.{AppendsFront}
 use Rattle.stack_vm.specs.Heights.{greatest_of}
-use Rattle.stack_vm.specs.Faults.{function_fault, functions_fault, entry_fault, image_fault}
+use Rattle.stack_vm.specs.Faults.{functions_fault, entry_fault, image_fault}
 use Rattle.stack_vm.specs.Sound.{At, IsSound, AllSound}
-use Rattle.stack_vm.specs.Standing.{Runs, RunsOn, Stands}
+use Rattle.stack_vm.specs.Standing.{Runs, RunsOn}
 use Rattle.stack_vm.specs.SinkState.{SinkState, with_text}
 use Rattle.stack_vm.specs.Acts.{Ran, runs, begun_at, Act}
-use Rattle.stack_vm.specs.Running.{act, acts, WorkLeaves, RunLeaves, FrontOf}
+use Rattle.stack_vm.specs.Running.{acts, WorkLeaves, RunLeaves, FrontOf, FrontIf}
 use Rattle.stack_vm.specs.Putting.{PuttingLeaves}
 use Rattle.stack_vm.specs.declared.end.End.{End}
 use Rattle.stack_vm.specs.declared.end.End.TheVariants as end
 use Rattle.stack_vm.specs.declared.machine.State.{State}
-use Rattle.stack_vm.specs.declared.machine.Frame.{Frame}
 use Rattle.stack_vm.specs.declared.putting.Putting.TheVariants as putting
 use Rattle.stack_vm.proofs.Frames.{the_same}
 use Rattle.stack_vm.proofs.Soundness.{sound_function}
@@ -107,12 +105,16 @@ done_end wanted old new newer kept e a b h told =
 front_end : (wanted : Option Ran) (old new newer : SinkState) (kept : List ℕ) (how : End) (put : List ℕ) → wanted ≡ Some (record { how = how; text = put ++ kept }) → new ≡ with_text put old → AppendsFront new.held newer.held kept → FrontOf wanted old newer
 front_end wanted old new newer kept how put is told a =
     let b : AppendsFront (append_known old.held put) newer.held kept = subst (λ (n : SinkState). AppendsFront n.held newer.held kept) told a in
-    rw is (record {
-      front = put ++ b.front;
-      rest = b.rest;
-      splits = append_assoc put b.front b.rest ∙ ap (λ (x : List ℕ). put ++ x) b.splits;
-      appends = b.appends ∙ append_known-append old.held put b.front;
-    })
+    record {
+      ran = record { how = how; text = put ++ kept };
+      gives = is;
+      appends = record {
+        front = put ++ b.front;
+        rest = b.rest;
+        splits = append_assoc put b.front b.rest ∙ ap (λ (x : List ℕ). put ++ x) b.splits;
+        appends = b.appends ∙ append_known-append old.held put b.front;
+      };
+    }
 
 pub failed_end : (wanted : Option Ran) (old new newer : SinkState) (kept : List ℕ) (e : End) → e ≢ end.WriteFault → e ≢ end.Memory → WorkLeaves wanted old new kept e → PuttingLeaves new kept putting.Failed newer → RunLeaves wanted old newer end.WriteFault
 failed_end wanted old new newer kept e a b h p =
@@ -123,3 +125,21 @@ pub memory_end : (wanted : Option Ran) (old new newer : SinkState) (kept : List 
 memory_end wanted old new newer kept e a b h p =
     let w = whole_end wanted old new kept e a b h in
     (p.0 ∙ ap (λ (n : SinkState). n.faults) w.2, front_end wanted old new newer kept e w.0 w.1 w.2 p.1)
+
+-- an end that a put made
+front_if : (wanted : Option Ran) (ran : Ran) (old new : SinkState) → wanted ≡ Some ran → FrontIf wanted old new → FrontOf wanted old new
+front_if wanted ran old new is h = record { ran = ran; gives = is; appends = subst (λ (w : Option Ran). FrontIf w old new) is h }
+
+pub kept_failed : (wanted : Option Ran) (ran : Ran) (old new : SinkState) (kept : List ℕ) → wanted ≡ Some ran → WorkLeaves wanted old new kept end.WriteFault → RunLeaves wanted old new end.WriteFault
+kept_failed wanted ran old new kept is h = (h.0, front_if wanted ran old new is h.1)
+
+pub kept_memory : (wanted : Option Ran) (ran : Ran) (old new : SinkState) (kept : List ℕ) → wanted ≡ Some ran → WorkLeaves wanted old new kept end.Memory → RunLeaves wanted old new end.Memory
+kept_memory wanted ran old new kept is h = (h.0, front_if wanted ran old new is h.1)
+
+-- whatever the end, the defined run is not stuck
+pub leaves_defined : (wanted : Option Ran) (old new : SinkState) (e : End) → RunLeaves wanted old new e → (ran : Ran) × (wanted ≡ Some ran)
+leaves_defined wanted old new end.WriteFault h = (h.1.ran, h.1.gives)
+leaves_defined wanted old new end.Memory h = (h.1.ran, h.1.gives)
+leaves_defined wanted old new end.Ended h = (_, h.1)
+leaves_defined wanted old new (end.Trapped kind f at) h = (_, h.1)
+leaves_defined wanted old new end.OutOfSteps h = (_, h.1)

@@ -1,16 +1,15 @@
 -- An instruction that stays in its function does on the stack what it does on the acts.
-use Rattle.std.proofs.Common.{◌≡◌, ℕ, ◌+◌, ◌-◌, ◌*◌, ◌<◌, ◌≤◌, List, [], ◌∷◌, ◌++◌, length, take, drop, get_or, slice_get, slice_set, ℤ, pos, Bool, true, false, ◌&&◌, if◌then◌else◌, Option, Some, None, Result, Ok, Err, refl, arith, sym, ◌∙◌, ap, subst, length-append, length-drop, append-nil}
+use Rattle.std.proofs.Common.{◌≡◌, ℕ, ◌+◌, ◌-◌, ◌<◌, ◌≤◌, List, [], ◌∷◌, ◌++◌, length, take, drop, get_or, slice_set, ℤ, pos, Bool, true, ◌&&◌, if◌then◌else◌, Result, Ok, refl, arith, sym, ◌∙◌, ap, subst, length-drop, append-nil}
 use Rattle.std.proofs.lemmas.List.{length-take, get_or-take}
 use Rattle.std.proofs.lemmas.Bool.Decides.{nat_tests}
 use Rattle.std.specs.Prelude.{nat_le}
-use Rattle.stack_vm.specs.Instruction.{takes, size}
-use Rattle.stack_vm.specs.Effect.{under, pushes, goes_on, after, Moved, one}
+use Rattle.stack_vm.specs.Instruction.{takes}
+use Rattle.stack_vm.specs.Effect.{under, pushes, goes_on, after, one}
 use Rattle.stack_vm.specs.Running.{act}
-use Rattle.stack_vm.specs.Acts.{Act, Outcome, Goes, Stuck, slots_after, has_slot, prints, pushing, staying}
-use Rattle.stack_vm.proofs.Stack.{under_drop, front_stays, slots_stay, operands_are, stored_front, stored_slots, stored_operands}
+use Rattle.stack_vm.specs.Acts.{Act, Outcome, Goes, slots_after, has_slot, prints, pushing, staying}
+use Rattle.stack_vm.proofs.Stack.{under_drop, slots_stay, operands_are, stored_slots, stored_operands}
 use Rattle.stack_vm.specs.declared.instruction.Instruction.{Instruction}
 use Rattle.stack_vm.specs.declared.instruction.Instruction.TheVariants.{Push8, Push64, Load, Store, Pop, Dup, Nop, Add, Sub, Mul, Div, Rem, Neg, Equal, NotEqual, Less, AtMost, Greater, AtLeast, Not, Jump, JumpZero, Call, Return, Print, Trap}
-use Rattle.object_format.specs.Image.{LinkedFn}
 use Rattle.stack_vm.specs.declared.machine.State.{State}
 use Rattle.stack_vm.specs.declared.end.Kind.{Kind}
 

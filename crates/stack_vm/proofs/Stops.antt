@@ -1,17 +1,17 @@
 -- What lies below a frame stays, and what traps on the stack traps on the acts.
-use Rattle.std.proofs.Common.{◌≡◌, ℕ, zero, suc, ◌+◌, ◌-◌, ◌*◌, ◌<◌, ◌≤◌, ◌⊎◌, inl, inr, List, [], ◌∷◌, ◌++◌, length, take, drop, slice_get, slice_set, reverse, ℤ, pos, Bool, true, false, ◌&&◌, ◌||◌, if◌then◌else◌, Option, Some, None, Result, Ok, Err, refl, arith, sym, ◌∙◌, ap, subst, length-drop}
+use Rattle.std.proofs.Common.{◌≡◌, ℕ, ◌+◌, ◌-◌, ◌<◌, ◌≤◌, ◌⊎◌, inl, inr, List, ◌∷◌, length, take, drop, slice_get, reverse, ℤ, pos, Bool, true, false, ◌||◌, if◌then◌else◌, Some, Result, Err, refl, arith, sym, ◌∙◌, ap, subst, length-drop}
 use Rattle.std.specs.Prelude.{nat_le, nat_lt}
 use Rattle.std.proofs.lemmas.List.{length-take, get_or-take, length-reverse}
 use Rattle.std.proofs.lemmas.Bool.Decides.{nat_tests}
 use Rattle.stack_vm.specs.Instruction.{takes, instruction_at}
 use Rattle.stack_vm.specs.Heights.{greatest_of}
-use Rattle.stack_vm.specs.Effect.{under, pushes, goes_on, after, is_inner, Did}
-use Rattle.stack_vm.specs.Sound.{IsFine, Leaves}
+use Rattle.stack_vm.specs.Effect.{under, pushes, after, is_inner}
+use Rattle.stack_vm.specs.Sound.{IsFine}
 use Rattle.stack_vm.specs.Standing.{height, TooDeep}
 use Rattle.stack_vm.specs.Running.{act, seen}
-use Rattle.stack_vm.specs.Acts.{Act, Outcome, Goes, Ends, Traps, Stuck, staying, pushing, calling, obey, step, turn, runs, prints, has_slot, words_of}
+use Rattle.stack_vm.specs.Acts.{Act, Outcome, Traps, pushing, calling, step, has_slot, words_of}
 use Rattle.stack_vm.proofs.Stack.{front_stays, stored_front, under_drop}
-use Rattle.stack_vm.proofs.Stays.{stays, below_is, Same, same, slot_low, enough, chosen}
+use Rattle.stack_vm.proofs.Stays.{Same, same, slot_low, enough, chosen}
 use Rattle.stack_vm.proofs.Turns.{length-seen, no_test}
 use Rattle.stack_vm.proofs.Moves.{fine_room, obey_inner}
 use Rattle.stack_vm.specs.declared.instruction.Instruction.{Instruction}

@@ -1,14 +1,14 @@
 -- A call and a return do on the stack what they do on the acts.
-use Rattle.std.proofs.Common.{◌≡◌, ℕ, ◌+◌, ◌-◌, ◌*◌, ◌<◌, ◌≤◌, List, [], ◌∷◌, ◌++◌, length, take, drop, reverse, replicate, slice_get, ℤ, pos, Bool, true, false, ◌||◌, if◌then◌else◌, Option, Some, None, refl, arith, sym, suc, ◌∙◌, ap, subst, length-append, length-drop}
+use Rattle.std.proofs.Common.{◌≡◌, ℕ, ◌+◌, ◌-◌, ◌≤◌, List, [], ◌∷◌, ◌++◌, length, take, drop, reverse, replicate, slice_get, ℤ, pos, Bool, false, ◌||◌, if◌then◌else◌, Some, refl, arith, sym, suc, ◌∙◌, ap, length-append, length-drop}
 use Rattle.std.specs.Prelude.{nat_lt}
 use Rattle.std.proofs.lemmas.List.{length-take, take-take, drop-drop, reverse-append, length-reverse, take-append-le, drop-append-le, length-replicate, take_all, drop_all}
 use Rattle.std.proofs.lemmas.Bool.Decides.{nat_tests}
 use Rattle.stack_vm.specs.Heights.{greatest_of}
 use Rattle.stack_vm.specs.Running.{act, slots_count, frame_act, seen, Counted}
-use Rattle.stack_vm.specs.Acts.{Act, Outcome, Goes, Traps, Stuck, calling, returning, words_of}
-use Rattle.stack_vm.specs.Standing.{Called, begun, waiting, resumed}
+use Rattle.stack_vm.specs.Acts.{Act, Outcome, Goes, calling, returning, words_of}
+use Rattle.stack_vm.specs.Standing.{Called, waiting, resumed}
 use Rattle.stack_vm.proofs.Stack.{drop_take_at}
-use Rattle.stack_vm.proofs.Stays.{made, built}
+use Rattle.stack_vm.proofs.Stays.{built}
 use Rattle.object_format.specs.Image.{LinkedFn}
 use Rattle.stack_vm.specs.declared.machine.State.{State}
 use Rattle.stack_vm.specs.declared.machine.Frame.{Frame}

@@ -1,5 +1,5 @@
 -- The machine: functions at work, one step, and what a run of so many steps gives. It knows nothing of how the running machine lays out its words.
-use Rattle.std.specs.Prelude.{◌≡◌, ℕ, zero, suc, ◌+◌, ◌-◌, ◌<◌, List, [], ◌∷◌, ◌++◌, length, take, drop, get_or, slice_get, slice_set, replicate, sum_by, ℤ, pos, Bool, true, false, nat_le, nat_lt, eqb, ◌&&◌, ◌||◌, if◌then◌else◌, Option, Some, None, Result, Ok, Err, option_map}
+use Rattle.std.specs.Prelude.{ℕ, zero, suc, ◌+◌, ◌-◌, List, [], ◌∷◌, ◌++◌, length, take, drop, slice_get, slice_set, replicate, ℤ, pos, Bool, true, nat_le, nat_lt, ◌&&◌, ◌||◌, if◌then◌else◌, Option, Some, None, Result, Ok, Err}
 use Rattle.std.specs.Fmt.{signed_decimal}
 use Rattle.object_format.specs.Image.{LinkedFn, Linked}
 use Rattle.stack_vm.specs.Instruction.{size, takes, instruction_at}

@@ -1,5 +1,5 @@
 -- The first fault of an image, in the order of its functions, then by offset, then by the order of the rules.
-use Rattle.std.specs.Prelude.{◌≡◌, ℕ, ◌+◌, ◌<◌, ◌≤◌, List, [], ◌∷◌, length, eqb, nat_lt, nat_le, not, ◌&&◌, ◌||◌, if◌then◌else◌, Bool, true, false, Option, Some, None, unwrap_or, is_none, slice_get, Result, Ok, Err}
+use Rattle.std.specs.Prelude.{◌≡◌, ℕ, ◌+◌, ◌≤◌, List, [], ◌∷◌, length, eqb, nat_lt, nat_le, not, ◌&&◌, ◌||◌, if◌then◌else◌, Bool, true, false, Option, Some, None, unwrap_or, is_none, slice_get, Result, Ok, Err}
 use Rattle.object_format.specs.Image.{LinkedFn, Linked}
 use Rattle.object_format.specs.Reading.{or_later, unless}
 use Rattle.object_format.specs.declared.fault.BadFile.{BadFile}
@@ -98,6 +98,10 @@ IsWithin hs long = (t : ℕ) → long ≤ t → first_at hs t ≡ None
 -- the greatest height of a function that begins at this place of the file, or its first fault
 abbrev pub checked : List LinkedFn → ℕ → LinkedFn → Result ℕ BadFile
 checked fs at f = unless (function_fault fs at f) (greatest_of fs f)
+
+-- the greatest height of a function whose code begins at this place of the file, or the first fault of its code
+abbrev pub judged : List LinkedFn → ℕ → LinkedFn → Result ℕ BadFile
+judged fs at f = unless (code_faults fs (heights_of fs f.code) f (instructions f.code) at (instructions f.code)) (greatest_of fs f)
 
 -- What a judgement of code that begins at this place says.
 abbrev pub Judges : List LinkedFn → ℕ → LinkedFn → Result ℕ BadFile → Type 0

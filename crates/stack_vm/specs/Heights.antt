@@ -1,8 +1,8 @@
 -- How many operand words lie above a function's slots before each of its instructions.
-use Rattle.std.specs.Prelude.{◌≡◌, ℕ, ◌+◌, ◌-◌, ◌*◌, ◌^◌, ◌<◌, ◌≤◌, max, slice_index, List, [], ◌∷◌, ◌++◌, length, take, slice_get, eqb, if◌then◌else◌, Option, Some, None, unwrap_or}
+use Rattle.std.specs.Prelude.{◌≡◌, ℕ, ◌+◌, ◌-◌, ◌^◌, ◌<◌, ◌≤◌, max, slice_index, List, [], ◌∷◌, ◌++◌, length, slice_get, eqb, if◌then◌else◌, Option, Some, None, unwrap_or}
 use Rattle.object_format.specs.Opcode.{row}
 use Rattle.object_format.specs.Image.{LinkedFn}
-use Rattle.stack_vm.specs.Instruction.{opcode, takes, instructions}
+use Rattle.stack_vm.specs.Instruction.{opcode, instructions}
 use Rattle.stack_vm.specs.declared.instruction.Instruction.{Instruction}
 use Rattle.stack_vm.specs.declared.instruction.Placed.{Placed}
 use Rattle.stack_vm.specs.declared.instruction.Instruction.TheVariants.{Jump, JumpZero, Call, Return, Trap}

@@ -1,5 +1,5 @@
 -- The instructions of the machine, and which bytes of code they are.
-use Rattle.std.specs.Prelude.{◌≡◌, ◌<◌, drop, ℕ, zero, suc, ◌+◌, List, [], ◌∷◌, ◌++◌, length, take, slice_index, nat_lt, eqb, if◌then◌else◌, Option, Some, None, option_map}
+use Rattle.std.specs.Prelude.{◌≡◌, ◌<◌, drop, ℕ, zero, suc, ◌+◌, List, [], ◌∷◌, ◌++◌, length, take, slice_index, nat_lt, eqb, if◌then◌else◌, Option, Some, None}
 use Rattle.std.specs.Int.{w8, w32, w64, from_be_bytes, cast_signed}
 use Rattle.object_format.specs.Opcode.{row, opcode_of}
 use Rattle.object_format.specs.Reading.{operand_of}

@@ -9,5 +9,6 @@ pub mod Running
 pub mod SinkState
 pub mod Sound
 pub mod Standing
+pub mod Sweep
 pub mod Valid
 pub mod Words

@@ -1,10 +1,10 @@
 -- What a run leaves in its sink.
-use Rattle.std.specs.Prelude.{◌≡◌, ◌+◌, ℕ, List, [], ◌∷◌, ◌++◌, take, reverse, length, drop, replicate, slice_get, ℤ, Option, Some, None, IfSome}
+use Rattle.std.specs.Prelude.{◌≡◌, ◌+◌, ℕ, List, [], ◌∷◌, ◌++◌, take, reverse, length, drop, slice_get, ℤ, Option, Some, None, IfSome}
 use Rattle.object_format.specs.Image.{LinkedFn}
 use Rattle.outside.specs.Counts.{Rose}
 use Rattle.outside.specs.Fronts.{AppendsFront}
 use Rattle.stack_vm.specs.SinkState.{SinkState, with_text}
-use Rattle.stack_vm.specs.Acts.{Act, Ran, line_of}
+use Rattle.stack_vm.specs.Acts.{Act, Ran}
 use Rattle.stack_vm.specs.declared.end.End.{End}
 use Rattle.stack_vm.specs.declared.end.End.TheVariants as end
 use Rattle.stack_vm.specs.declared.machine.State.{State}
@@ -12,9 +12,15 @@ use Rattle.stack_vm.specs.declared.machine.Frame.{Frame}
 use Rattle.stack_vm.specs.declared.putting.Putting.{Putting}
 use Rattle.stack_vm.specs.declared.putting.Putting.TheVariants as putting
 
--- A put failed, and the count of faults rose: the sink gained a front of the text. The same where the sink found no memory, but for the count.
-abbrev pub FrontOf : Option Ran → SinkState → SinkState → Type 0
-FrontOf wanted old new = IfSome wanted (λ ran. AppendsFront old.held new.held ran.text)
+-- The run is not stuck, and the sink gained a front of what it prints.
+pub record FrontOf (wanted : Option Ran) (old new : SinkState) : Type 0 where
+  pub ran : Ran
+  pub gives : wanted ≡ Some ran
+  pub appends : AppendsFront old.held new.held ran.text
+
+-- A put failed, and the count of faults rose: the sink gained a front of the text, if the run is not stuck. The same where the sink found no memory, but for the count.
+abbrev pub FrontIf : Option Ran → SinkState → SinkState → Type 0
+FrontIf wanted old new = IfSome wanted (λ ran. AppendsFront old.held new.held ran.text)
 
 -- The run ends as it should, and the sink gains exactly its text; but where a put failed or found no memory, a front of it.
 abbrev pub RunLeaves : Option Ran → SinkState → SinkState → End → Type 0
@@ -24,8 +30,8 @@ RunLeaves wanted old new how = (text : List ℕ) × (wanted ≡ Some (record { h
 
 -- The same where the last part of the text is still kept back.
 abbrev pub WorkLeaves : Option Ran → SinkState → SinkState → List ℕ → End → Type 0
-WorkLeaves wanted old new kept end.WriteFault = Rose old.faults new.faults × FrontOf wanted old new
-WorkLeaves wanted old new kept end.Memory = (new.faults ≡ old.faults) × FrontOf wanted old new
+WorkLeaves wanted old new kept end.WriteFault = Rose old.faults new.faults × FrontIf wanted old new
+WorkLeaves wanted old new kept end.Memory = (new.faults ≡ old.faults) × FrontIf wanted old new
 WorkLeaves wanted old new kept how = (put : List ℕ) × (wanted ≡ Some (record { how = how; text = put ++ kept })) × (new ≡ with_text put old)
 
 -- The kept text goes to the sink, or it stays; a line is kept then.

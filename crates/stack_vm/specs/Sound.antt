@@ -1,5 +1,5 @@
 -- What holds at each instruction of a valid image, so that a run never meets a missing word, slot or instruction.
-use Rattle.std.specs.Prelude.{◌≡◌, ℕ, ◌+◌, ◌-◌, ◌<◌, ◌≤◌, List, length, slice_get, Option, Some, ◌^◌}
+use Rattle.std.specs.Prelude.{◌≡◌, ℕ, ◌+◌, ◌-◌, ◌<◌, ◌≤◌, List, length, slice_get, Some}
 use Rattle.object_format.specs.Image.{LinkedFn}
 use Rattle.stack_vm.specs.Instruction.{instruction_at, IsThere}
 use Rattle.stack_vm.specs.Heights.{first_at, heights_of}

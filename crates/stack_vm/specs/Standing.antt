@@ -1,5 +1,5 @@
 -- How the running machine stands: its words, its state and the frames that wait.
-use Rattle.std.specs.Prelude.{◌≡◌, ℕ, ◌+◌, ◌-◌, ◌*◌, ◌<◌, ◌≤◌, List, [], ◌∷◌, length, slice_get, slice_index, reverse, take, drop, replicate, ◌++◌, ◌⊎◌, ℤ, pos, None, Option, Some, ◌^◌}
+use Rattle.std.specs.Prelude.{◌≡◌, ℕ, ◌+◌, ◌-◌, ◌*◌, ◌<◌, ◌≤◌, List, [], ◌∷◌, length, slice_get, reverse, take, drop, replicate, ◌++◌, ◌⊎◌, ℤ, pos, None, Option, Some, ◌^◌}
 use Rattle.object_format.specs.Image.{LinkedFn, IsLinkedFn}
 use Rattle.stack_vm.specs.Heights.{greatest_of}
 use Rattle.stack_vm.specs.Sound.{At, Leaves, IsSound, IsFine}

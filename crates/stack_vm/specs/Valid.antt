@@ -1,5 +1,5 @@
 -- An image that keeps the rules of the machine.
-use Rattle.std.specs.Prelude.{◌≡◌, ◌≤◌, ℕ, List, length, map, Bool, true, Option, None}
+use Rattle.std.specs.Prelude.{◌≡◌, ℕ, List, map, Bool, None}
 use Rattle.object_format.specs.Image.{Linked}
 use Rattle.stack_vm.specs.Heights.{greatest_of}
 use Rattle.stack_vm.specs.Faults.{image_fault}

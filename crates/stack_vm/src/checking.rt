@@ -1,25 +1,32 @@
 //! Whether a function keeps the rules of the machine.
+//!
+//! One pass finds a function that keeps them all, with its greatest height. Only a function that does not
+//! get through it is looked over for its first fault, in four passes: its instructions, their heights,
+//! the targets to which a jump brings another height, and then the rules in the order of their table. That
+//! is done at most once for an image, since the first fault ends the validation. The room for both is
+//! used again from function to function.
 
-ghost use Rattle.std.specs.Prelude.{◌≡◌, ℕ, ◌+◌, ◌-◌, ◌<◌, ◌≤◌, ◌^◌, length, replicate, Bool, false, None, OnOk, List};
-ghost use Rattle.lar_tree.specs.Answers.{Answers};
-ghost use Rattle.object_format.specs.Image.{LinkedFn};
+ghost use Rattle.std.specs.Prelude.{◌≡◌, ℕ, ◌+◌, ◌-◌, ◌<◌, ◌^◌, length, replicate, false, None, OnOk};
+ghost use Rattle.lar_bytes.specs.Answers.{Answers};
 ghost use Rattle.object_format.specs.Reading.{code_fault};
 ghost use Rattle.stack_vm.specs.Instruction.{instructions};
-ghost use Rattle.stack_vm.specs.Heights.{greatest_of, heights_of};
-ghost use Rattle.stack_vm.specs.Faults.{code_faults, checked, Judges};
+ghost use Rattle.stack_vm.specs.Faults.{checked, judged, Judges};
 
 use crate::crossing::cross;
 use crate::faults::first;
 use crate::heights::{NONE, measure};
 use crate::instruction::{Placed, list};
-use lar_tree::OrMemory;
+use crate::sweeping::sweep;
+use lar_bytes::OrMemory;
 use object_format::{BadFile, ImageFn, What};
 use std::alloc::{AllocError, Global};
 
-/// Room for what is known of the function at hand: its instructions, and by offset what jumps bring,
-/// the heights, and whether a jump brings another height.
+/// Room for what is known of the function at hand, by offset: what the one pass notes; and for the
+/// search of a fault the instructions, what jumps bring, the heights, and whether a jump brings
+/// another height.
 #[derive(Drop)]
 pub struct Scratch {
+    noted: Vec<u32>,
     listed: Vec<Placed>,
     brought: Vec<u32>,
     found: Vec<u32>,
@@ -29,6 +36,7 @@ pub struct Scratch {
 impl Scratch {
     pub fn new(alloc: Global) -> Scratch {
         Scratch {
+            noted: Vec::new(alloc),
             listed: Vec::new(alloc),
             brought: Vec::new(alloc),
             found: Vec::new(alloc),
@@ -81,6 +89,37 @@ fn judge(
     }
 }
 
+/// The same of a function of which nothing is listed yet.
+fn look_over(
+    scratch: &mut Scratch,
+    functions: &[ImageFn],
+    function: &ImageFn,
+    at: u64,
+) -> Result<u32, OrMemory<BadFile>>
+    requires fits { at < 2 ^ 62 }
+    requires short { length function.now.code < 2 ^ 16 }
+    requires whole { (count : ℕ) × (code_fault count 0 0 function.now.code ≡ None) }
+    ensures { Answers (λ n. n) result (judged functions.now at function.now) }
+{
+    let code = function.code();
+    list(&mut scratch.listed, code)?;
+    refill(&mut scratch.brought, code.len())?;
+    refill(&mut scratch.found, code.len())?;
+    unset(&mut scratch.crossed, code.len())?;
+    match judge(
+        functions,
+        function,
+        &scratch.listed,
+        &mut scratch.brought,
+        &mut scratch.found,
+        &mut scratch.crossed,
+        at,
+    ) {
+        Ok(greatest) => Ok(greatest),
+        Err(fault) => Err(OrMemory::Refused(fault)),
+    }
+}
+
 /// The greatest height of a function that begins `at` bytes into the file, or its first fault.
 #[tactic(auto, unfolding(crate::specs::Faults::function_fault))]
 pub fn check(
@@ -106,20 +145,9 @@ pub fn check(
             what: What::End,
         }));
     }
-    list(&mut scratch.listed, code)?;
-    refill(&mut scratch.brought, code.len())?;
-    refill(&mut scratch.found, code.len())?;
-    unset(&mut scratch.crossed, code.len())?;
-    match judge(
-        functions,
-        function,
-        &scratch.listed,
-        &mut scratch.brought,
-        &mut scratch.found,
-        &mut scratch.crossed,
-        at + 5,
-    ) {
-        Ok(greatest) => Ok(greatest),
-        Err(fault) => Err(OrMemory::Refused(fault)),
+    refill(&mut scratch.noted, code.len())?;
+    match sweep(functions, function, code, &mut scratch.noted) {
+        Some(greatest) => Ok(greatest),
+        None => look_over(scratch, functions, function, at + 5),
     }
 }

@@ -1,6 +1,6 @@
 //! Words that are cleared and moved.
 
-ghost use Rattle.std.specs.Prelude.{◌≡◌, ℕ, ◌+◌, ◌-◌, ◌*◌, ◌<◌, ◌≤◌, length, take, drop, replicate, ◌++◌, pos, ℤ};
+ghost use Rattle.std.specs.Prelude.{◌≡◌, ◌+◌, ◌-◌, ◌≤◌, length, take, drop, replicate, ◌++◌, pos};
 
 /// Sets the words of a part to 0.
 pub fn clear(words: &mut [i64], from: usize, to: usize)

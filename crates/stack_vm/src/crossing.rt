@@ -1,9 +1,9 @@
 //! The offsets to which a jump brings another height than their own.
 
-ghost use Rattle.std.specs.Prelude.{◌≡◌, ℕ, ◌+◌, ◌*◌, ◌<◌, ◌≤◌, ◌^◌, ◌||◌, length, slice_index, slice_index_or, replicate, Bool, true, false, Some, None, List};
+ghost use Rattle.std.specs.Prelude.{◌≡◌, ℕ, ◌*◌, ◌<◌, ◌≤◌, ◌||◌, length, slice_index_or, true, false, Some, List};
 ghost use Rattle.std.specs.Prelude.{slice_get};
 ghost use Rattle.stack_vm.specs.declared.instruction.Placed.{Placed};
-ghost use Rattle.stack_vm.specs.Heights.{as_number, Shows, jumps_to, left_by, first_at};
+ghost use Rattle.stack_vm.specs.Heights.{Shows, jumps_to, first_at};
 ghost use Rattle.stack_vm.specs.Faults.{brings_other, is_crossed, height_at};
 
 use crate::heights::{NONE, leaves, target};

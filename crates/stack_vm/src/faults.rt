@@ -1,9 +1,8 @@
 //! The first fault of a function's code.
 
-ghost use Rattle.std.specs.Prelude.{◌≡◌, ℕ, ◌+◌, ◌*◌, ◌<◌, ◌≤◌, ◌^◌, length, slice_get, slice_index, slice_index_or, Bool, true, false, Some, None, List};
-ghost use Rattle.object_format.specs.Image.{LinkedFn};
-ghost use Rattle.stack_vm.specs.Heights.{taken, jumps_to, Shows};
-ghost use Rattle.stack_vm.specs.Faults.{word_at, code_faults, misses, lacks_slot, is_return, may_end, is_crossed, height_at, IsWithin};
+ghost use Rattle.std.specs.Prelude.{◌≡◌, ℕ, ◌+◌, ◌*◌, ◌<◌, ◌^◌, length, slice_get, slice_index_or, true, false, Some, None, List};
+ghost use Rattle.stack_vm.specs.Heights.{jumps_to, Shows};
+ghost use Rattle.stack_vm.specs.Faults.{word_at, code_faults, misses, lacks_slot, is_return, may_end, is_crossed, IsWithin};
 ghost use Rattle.stack_vm.specs.declared.instruction.Placed.{Placed};
 
 use crate::crossing::height_of;

@@ -1,10 +1,9 @@
 //! The height before each instruction of a function, by its offset.
 
-ghost use Rattle.std.specs.Prelude.{◌≡◌, ℕ, ◌+◌, ◌*◌, ◌<◌, ◌≤◌, ◌^◌, [], ◌∷◌, ◌++◌, length, max, All, Some, None, Option, List, unwrap_or};
-ghost use Rattle.object_format.specs.Image.{LinkedFn};
+ghost use Rattle.std.specs.Prelude.{◌≡◌, ℕ, ◌+◌, ◌*◌, ◌<◌, ◌≤◌, ◌^◌, [], ◌∷◌, ◌++◌, length, max, Some, None, Option, List, unwrap_or};
 ghost use Rattle.std.specs.Prelude.{slice_get};
 ghost use Rattle.stack_vm.specs.declared.instruction.Placed.{Placed};
-ghost use Rattle.stack_vm.specs.Heights.{taken, pushed, left_by, jumps_to, handed_on, brings, as_number, Shows, heights, at_start, greatest, first_at};
+ghost use Rattle.stack_vm.specs.Heights.{taken, pushed, left_by, jumps_to, handed_on, brings, as_number, Shows, heights, at_start, greatest};
 
 use crate::instruction::{Instruction, Placed};
 use object_format::ImageFn;
@@ -75,7 +74,7 @@ pub fn leaves(functions: &[ImageFn], instruction: Instruction, height: u32) -> u
 }
 
 /// The height here, from what was handed on and what the first jump brought.
-fn here(handed: Option<u32>, brought: u32) -> u32
+pub fn here(handed: Option<u32>, brought: u32) -> u32
     ensures some { (n : ℕ) → handed ≡ Some n → result ≡ n }
     ensures none { (o : Option ℕ) → handed ≡ None → brought ≡ as_number o → ((n : ℕ) → o ≡ Some n → n < 4_294_967_295) → result ≡ unwrap_or o 0 }
 {
@@ -105,7 +104,7 @@ fn bring(brought: &mut [u32], instruction: Instruction, left: u32)
     }
 }
 
-fn larger(a: u32, b: u32) -> u32
+pub fn larger(a: u32, b: u32) -> u32
     ensures { result ≡ max a b }
 {
     if a < b { b } else { a }

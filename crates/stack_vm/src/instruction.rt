@@ -1,8 +1,8 @@
 //! One instruction, read from the bytes of code.
 
-ghost use Rattle.std.specs.Prelude.{◌≡◌, ◌+◌, ◌≤◌, ◌<◌, length, take, drop, slice_index, Some, None, ℕ, ◌^◌, OnOk};
-ghost use Rattle.std.specs.Int.{w8, w32, w64, from_be_bytes, cast_signed};
-ghost use Rattle.object_format.specs.Opcode.{opcode_of, row};
+ghost use Rattle.std.specs.Prelude.{◌≡◌, ◌+◌, ◌≤◌, ◌<◌, length, take, None, ℕ, ◌^◌, OnOk};
+ghost use Rattle.std.specs.Int.{w32, w64, from_be_bytes, cast_signed};
+ghost use Rattle.object_format.specs.Opcode.{row};
 ghost use Rattle.stack_vm.specs.Instruction.{read_as, size, IsThere, instructions};
 ghost use Rattle.object_format.specs.Reading.{code_fault};
 ghost use Rattle.stack_vm.specs.declared.instruction.Instruction.{Instruction};

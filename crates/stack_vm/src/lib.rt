@@ -21,6 +21,7 @@ mod putting;
 mod running;
 mod sink;
 mod std_sink;
+mod sweeping;
 mod valid;
 mod validating;
 

@@ -7,8 +7,8 @@
 //! instruction that is read there finds its words, its slot and the instruction to go on with, which
 //! is why none of that is tested here.
 
-ghost use Rattle.std.specs.Prelude.{◌≡◌, ℕ, ◌+◌, ◌-◌, ◌*◌, ◌<◌, ◌≤◌, length, slice_get, slice_index, Some, IfSome, ◌^◌, vec_capacity, reverse, map};
-ghost use Rattle.object_format.specs.Image.{LinkedFn, IsLinkedFn};
+ghost use Rattle.std.specs.Prelude.{◌≡◌, ◌+◌, ◌-◌, ◌<◌, ◌≤◌, length, slice_get, Some, IfSome, ◌^◌, vec_capacity, map};
+ghost use Rattle.object_format.specs.Image.{LinkedFn};
 ghost use Rattle.stack_vm.specs.Instruction.{instruction_at};
 ghost use Rattle.stack_vm.specs.Heights.{greatest_of};
 ghost use Rattle.stack_vm.specs.Sound.{Leaves, IsSound, AllSound};

@@ -4,14 +4,14 @@
 //! sink where the next line might not fit, and at the end. So the sink has a front of the text at any
 //! moment, and all of it at the end.
 
-ghost use Rattle.std.specs.Prelude.{◌≡◌, ℕ, ◌+◌, ◌-◌, ◌*◌, ◌<◌, ◌≤◌, ◌^◌, [], ◌∷◌, ◌++◌, length, take, reverse, slice_get, Some, Option, vec_capacity, map};
+ghost use Rattle.std.specs.Prelude.{◌≡◌, ◌+◌, ◌-◌, ◌<◌, ◌≤◌, ◌^◌, [], ◌++◌, length, take, reverse, slice_get, Some, Option, vec_capacity, map};
 ghost use Rattle.object_format.specs.Image.{LinkedFn};
 ghost use Rattle.stack_vm.specs.Heights.{greatest_of};
 ghost use Rattle.stack_vm.specs.Sound.{AllSound};
-ghost use Rattle.stack_vm.specs.Standing.{Runs, RunsOn};
+ghost use Rattle.stack_vm.specs.Standing.{RunsOn};
 ghost use Rattle.stack_vm.specs.Acts.{line_of, runs, runs_from, Ran};
 ghost use Rattle.stack_vm.specs.Running.{acts, Counted, Keeps, WorkLeaves, RunLeaves};
-ghost use Rattle.stack_vm.specs.SinkState.{SinkState, with_text};
+ghost use Rattle.stack_vm.specs.SinkState.{SinkState};
 
 use crate::Sink;
 use crate::copies::clear;
@@ -139,7 +139,7 @@ fn work<S: Sink>(
 
 /// Puts what is kept, unless the run ended by a put. The answer is how the whole run ends.
 fn finish<S: Sink>(alloc: Global, sink: &mut S, text: &[u8], end: End) -> End
-    ensures { (wanted : Option Ran) (old : SinkState) → WorkLeaves wanted old (S.told sink.old) text.now end → RunLeaves wanted old (S.told sink.new) result }
+    ensures { (wanted : Option Ran) (ran : Ran) (old : SinkState) → wanted ≡ Some ran → WorkLeaves wanted old (S.told sink.old) text.now end → RunLeaves wanted old (S.told sink.new) result }
 {
     match end {
         End::WriteFault => End::WriteFault,

@@ -1,10 +1,10 @@
 //! An image that was validated, with the room that its run takes.
 
-ghost use Rattle.std.specs.Prelude.{◌≡◌, ◌^◌, Bool, true, false, OnOk, OnErr};
-ghost use Rattle.lar_tree.specs.Answers.{Answers};
+ghost use Rattle.std.specs.Prelude.{◌≡◌, Some, true, false, OnOk, OnErr};
+ghost use Rattle.lar_bytes.specs.Answers.{Answers};
 ghost use Rattle.object_format.specs.Reading.{unless};
 ghost use Rattle.stack_vm.specs.Faults.{image_fault};
-ghost use Rattle.stack_vm.specs.Acts.{runs_of};
+ghost use Rattle.stack_vm.specs.Acts.{Ran, runs_of};
 ghost use Rattle.stack_vm.specs.Running.{RunLeaves};
 
 use crate::Sink;
@@ -12,7 +12,7 @@ use crate::end::End;
 use crate::machine::{Frame, MOST_FRAMES, ROOM, TEXT_ROOM};
 use crate::running::run_from;
 use crate::validating::{entry_fault, greatest_heights};
-use lar_tree::OrMemory;
+use lar_bytes::OrMemory;
 use object_format::{BadFile, Image};
 use std::alloc::{AllocError, Global};
 use std::marker::Model;
@@ -93,6 +93,8 @@ impl Valid {
 pub fn run<S: Sink>(alloc: Global, valid: &mut Valid, steps: u64, sink: &mut S) -> End
     requires { valid.old.reserved ≡ true }
     ensures leaves { RunLeaves (runs_of valid.old.image steps) (S.told sink.old) (S.told sink.new) result }
+    // The machine never lacks a word, a slot or an instruction: its definition is never stuck.
+    ensures defined { (ran : Ran) × (runs_of valid.old.image steps ≡ Some ran) }
     ensures same { valid.new ≡ valid.old }
 {
     let entry = valid.image.entry();

@@ -1,13 +1,13 @@
 //! The first fault of an image, or the greatest heights of its functions.
 
-ghost use Rattle.std.specs.Prelude.{◌≡◌, length, map, slice_get};
-ghost use Rattle.lar_tree.specs.Answers.{Answers};
+ghost use Rattle.std.specs.Prelude.{◌≡◌, map, slice_get};
+ghost use Rattle.lar_bytes.specs.Answers.{Answers};
 ghost use Rattle.object_format.specs.Reading.{unless};
 ghost use Rattle.stack_vm.specs.Heights.{greatest_of};
 ghost use Rattle.stack_vm.specs.Faults.{entry_fault, functions_fault};
 
 use crate::checking::{Scratch, check};
-use lar_tree::OrMemory;
+use lar_bytes::OrMemory;
 use object_format::{BadFile, Image, What};
 use std::alloc::Global;
 

@@ -1,9 +1,9 @@
-use Rattle.std.proofs.Common.{◌≡◌, [], ℕ, ◌+◌, ◌-◌, ◌^◌, ◌*◌, ◌<◌, List, length, replicate, sym, ap, subst, ◌∙◌, arith, Bool, false, refl}
-use Rattle.std.specs.Prelude.{slice_index_or, slice_get, Some}
-use Rattle.std.proofs.lemmas.List.{length-replicate, get_or-replicate}
+use Rattle.std.proofs.Common.{◌≡◌, [], ℕ, ◌-◌, ◌^◌, ◌*◌, ◌<◌, List, length, sym, ap, subst, ◌∙◌, arith}
+use Rattle.std.specs.Prelude.{slice_get}
+use Rattle.std.proofs.lemmas.List.{length-replicate}
 use Rattle.stack_vm.specs.Instruction.{instructions}
-use Rattle.stack_vm.specs.Heights.{heights, heights_of, at_start, Shows, greatest}
-use Rattle.stack_vm.specs.Faults.{IsWithin, is_crossed, code_faults}
+use Rattle.stack_vm.specs.Heights.{heights_of, Shows, greatest}
+use Rattle.stack_vm.specs.Faults.{IsWithin, code_faults}
 use Rattle.stack_vm.specs.declared.instruction.Placed.{Placed}
 use Rattle.stack_vm.proofs.Offsets.{all_get, IsLow, instructions_low, instructions_few, heights_within, within_same, heights-listed, shows_nothing}
 use Rattle.stack_vm.proofs.checking.judge.Goals as goal

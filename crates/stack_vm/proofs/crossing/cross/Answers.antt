@@ -1,9 +1,7 @@
-use Rattle.std.proofs.Common.{◌≡◌, ℕ, ◌+◌, ◌<◌, ◌||◌, ◌++◌, ◌∷◌, [], List, length, slice_index, slice_index_or, get_or, take, pos, arith, sym, ◌∙◌, ap, Bool, false}
+use Rattle.std.proofs.Common.{◌≡◌, ℕ, ◌+◌, ◌<◌, ◌||◌, ◌++◌, ◌∷◌, [], List, length, get_or, take, pos, arith, sym, ◌∙◌, ap, Bool}
 use Rattle.std.proofs.lemmas.List.{take_more}
-use Rattle.std.proofs.lemmas.Option.{slice_get-get_or}
 use Rattle.stack_vm.specs.Heights.{left_by, jumps_to, first_at}
 use Rattle.stack_vm.specs.Faults.{brings_other, is_crossed, height_at}
-use Rattle.stack_vm.specs.declared.instruction.Instruction.{Instruction}
 use Rattle.stack_vm.specs.declared.instruction.Instruction.TheVariants.{Push8}
 use Rattle.stack_vm.specs.declared.instruction.Placed.{Placed}
 use Rattle.stack_vm.proofs.Crossed.{crossed_more}

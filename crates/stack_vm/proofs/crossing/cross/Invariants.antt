@@ -1,4 +1,4 @@
-use Rattle.std.proofs.Common.{◌≡◌, ℕ, ◌*◌, ◌<◌, length, List, take, slice_index_or, Bool, false}
+use Rattle.std.proofs.Common.{◌≡◌, ℕ, ◌*◌, ◌<◌, length, List, take, slice_index_or, false}
 use Rattle.stack_vm.specs.Heights.{Shows}
 use Rattle.stack_vm.specs.Faults.{is_crossed}
 use Rattle.stack_vm.proofs.crossing.cross.Given as goal

@@ -1,11 +1,9 @@
-use Rattle.std.proofs.Common.{◌≡◌, ℕ, ◌*◌, ◌+◌, ◌<◌, ◌∷◌, [], List, length, get_or, drop, pos, arith, sym, ◌∙◌, ap, Bool, eqb}
+use Rattle.std.proofs.Common.{◌≡◌, ℕ, ◌*◌, ◌+◌, ◌<◌, length, get_or, drop, pos, arith, sym, ◌∙◌, ap, Bool, eqb}
 use Rattle.std.specs.Prelude.{Option, Some, None, slice_index_or, false}
 use Rattle.std.proofs.lemmas.Option.{slice_get-get_or}
 use Rattle.object_format.specs.Reading.{or_later}
-use Rattle.object_format.specs.declared.fault.BadFile.{BadFile}
 use Rattle.object_format.specs.declared.fault.What.{What}
-use Rattle.stack_vm.specs.Faults.{word_at, fault_if, is_empty, code_faults, is_crossed, height_at, IsWithin, misses}
-use Rattle.stack_vm.specs.Heights.{Shows, jumps_to}
+use Rattle.stack_vm.specs.Faults.{word_at, fault_if, code_faults, is_crossed, height_at}
 use Rattle.stack_vm.specs.declared.instruction.Instruction.TheVariants.{Push8}
 use Rattle.stack_vm.specs.declared.instruction.Placed.{Placed}
 use Rattle.stack_vm.proofs.FirstFault.{is_empty-drop, word_of, code_faults-at}

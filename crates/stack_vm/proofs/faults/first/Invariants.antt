@@ -1,4 +1,4 @@
-use Rattle.std.proofs.Common.{◌≡◌, ℕ, ◌*◌, ◌<◌, length, List, drop, Bool, false}
+use Rattle.std.proofs.Common.{◌≡◌, ℕ, ◌*◌, ◌<◌, length, List, drop, false}
 use Rattle.std.specs.Prelude.{slice_index_or}
 use Rattle.stack_vm.specs.Heights.{Shows}
 use Rattle.stack_vm.specs.Faults.{code_faults, is_crossed, IsWithin}

@@ -1,10 +1,8 @@
-use Rattle.std.proofs.Common.{◌≡◌, ℕ, ◌+◌, ◌*◌, ◌<◌, ◌≤◌, ◌++◌, ◌∷◌, [], List, length, slice_index, get_or, take, Option, Some, arith, sym, ◌∙◌, ap, pos}
+use Rattle.std.proofs.Common.{◌≡◌, ℕ, ◌+◌, ◌*◌, ◌<◌, ◌≤◌, ◌++◌, ◌∷◌, [], List, length, slice_index, get_or, take, arith, sym, ◌∙◌, ap, pos}
 use Rattle.std.specs.Prelude.{max}
 use Rattle.std.proofs.lemmas.List.{take_more}
 use Rattle.std.proofs.lemmas.Option.{slice_get-get_or}
-use Rattle.object_format.specs.Image.{LinkedFn}
-use Rattle.stack_vm.specs.Heights.{reached, at_start, here, next, Before, heights, greatest, Shows, brings, jumps_to, left_by, handed_on}
-use Rattle.stack_vm.specs.declared.instruction.Instruction.{Instruction}
+use Rattle.stack_vm.specs.Heights.{reached, at_start, here, next, Before, heights, left_by}
 use Rattle.stack_vm.specs.declared.instruction.Instruction.TheVariants.{Push8}
 use Rattle.stack_vm.specs.declared.instruction.Placed.{Placed}
 use Rattle.stack_vm.proofs.Measuring.{reached_more, heights_more, greatest_more, here_is, here_low, shown_higher}

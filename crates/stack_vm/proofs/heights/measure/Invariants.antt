@@ -1,4 +1,4 @@
-use Rattle.std.proofs.Common.{◌≡◌, ℕ, ◌*◌, ◌<◌, ◌≤◌, length, slice_index, take, Some}
+use Rattle.std.proofs.Common.{◌≡◌, ℕ, ◌*◌, ◌≤◌, length, take, Some}
 use Rattle.stack_vm.specs.Heights.{heights, reached, at_start, Shows, greatest}
 use Rattle.stack_vm.proofs.heights.measure.Given as goal
 

@@ -1,10 +1,8 @@
-use Rattle.std.proofs.Common.{arith, subst, sym, ◌∙◌, ap, refl, ◌≤◌, ◌≡◌, ℕ, ◌+◌, ◌-◌, ◌<◌, List, ◌++◌, ◌∷◌, [], length, vec_capacity, take, replicate, pos, Some}
+use Rattle.std.proofs.Common.{arith, subst, ◌∙◌, ap, refl, ◌≡◌, ℕ, ◌+◌, ◌-◌, ◌<◌, ◌++◌, length, vec_capacity, take, replicate, pos, Some}
 use Rattle.stack_vm.proofs.machine.call.Goals as goal
 use Rattle.stack_vm.proofs.Frames.{begins, the_same}
 use Rattle.stack_vm.proofs.Places.{at_greatest, at_within}
-use Rattle.stack_vm.specs.Standing.{Runs, RunsOn, CallGives, begun}
-use Rattle.stack_vm.specs.declared.machine.Frame.{Frame}
-use Rattle.stack_vm.specs.declared.machine.State.{State}
+use Rattle.stack_vm.specs.Standing.{CallGives, begun}
 use Rattle.object_format.specs.Image.{LinkedFn}
 
 pub returns-clause-runs : goal.returns-clause-runs

@@ -1,6 +1,6 @@
-use Rattle.std.proofs.Common.{◌≡◌, ℕ, List, ◌+◌, ◌≤◌, subst, sym, ap, ◌∙◌, arith}
+use Rattle.std.proofs.Common.{◌≡◌, ℕ, List, subst, sym, ap, ◌∙◌, arith}
 use Rattle.std.specs.Prelude.{Some}
-use Rattle.stack_vm.specs.Instruction.{IsThere, instruction_at}
+use Rattle.stack_vm.specs.Instruction.{IsThere}
 use Rattle.stack_vm.specs.Sound.{IsFine}
 use Rattle.stack_vm.specs.Standing.{height}
 use Rattle.stack_vm.specs.declared.instruction.Instruction.{Instruction}

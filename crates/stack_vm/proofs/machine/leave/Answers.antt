@@ -1,4 +1,4 @@
-use Rattle.std.proofs.Common.{arith, subst, sym, ◌∙◌, ap, refl, ℕ, ◌+◌, ◌-◌, ◌≤◌, ◌≡◌, List, ◌++◌, ◌∷◌, [], length, vec_capacity, take, drop, ℤ}
+use Rattle.std.proofs.Common.{arith, subst, sym, ◌∙◌, ap, refl, ℕ, ◌+◌, ◌-◌, ◌≡◌, List, ◌++◌, length, vec_capacity, take, drop, ℤ}
 use Rattle.std.proofs.lemmas.List.{length-take, take-take}
 use Rattle.stack_vm.proofs.machine.leave.Goals as goal
 use Rattle.stack_vm.proofs.Frames.{resumes}

@@ -1,5 +1,5 @@
 use Rattle.std.specs.Int.{w64}
-use Rattle.std.proofs.Common.{rules, ◌-◌, ◌+◌, ◌≡◌, ap, ◌∙◌, arith, slice_set, take, ℤ, List}
+use Rattle.std.proofs.Common.{rules, ◌-◌, ◌+◌, ap, ◌∙◌, arith, slice_set, take, ℤ}
 use Rattle.std.proofs.lemmas.Int.{to_z-of_z}
 use Rattle.std.proofs.Math.Seq.{take-set-lt}
 use Rattle.stack_vm.proofs.machine.store.Goals as goal

@@ -1,11 +1,11 @@
-use Rattle.std.proofs.Common.{◌≡◌, ℕ, ◌-◌, ◌++◌, ◌∷◌, [], List, length, take, replicate, ℤ, pos, Option, Some, slice_get, refl, sym, ap, ◌∙◌, subst, arith, ltb, true, false}
+use Rattle.std.proofs.Common.{◌≡◌, ℕ, ◌-◌, ◌++◌, ◌∷◌, [], length, take, replicate, pos, Option, Some, slice_get, refl, sym, ap, ◌∙◌, subst, arith, ltb, true, false}
 use Rattle.std.specs.Prelude.{vec_capacity}
 use Rattle.std.proofs.lemmas.Bool.{lt-ltb, le-ltb}
-use Rattle.object_format.specs.Image.{LinkedFn}
 use Rattle.stack_vm.specs.Heights.{greatest_of}
-use Rattle.stack_vm.specs.Acts.{Ran, Act, runs, runs_from, begun_at}
+use Rattle.stack_vm.specs.Acts.{Ran, runs, runs_from, begun_at}
 use Rattle.stack_vm.specs.Running.{acts, RunLeaves, WorkLeaves}
 use Rattle.stack_vm.specs.declared.machine.State.{State}
+use Rattle.stack_vm.proofs.Defined.{runs_defined}
 use Rattle.stack_vm.proofs.Frames.{found}
 use Rattle.stack_vm.proofs.Loop.{with_text-nil}
 use Rattle.stack_vm.proofs.Starting.{starts, starts_as}
@@ -45,4 +45,6 @@ returns-clause-leaves g c =
     let zeros : take f.slots words ≡ replicate f.slots (pos 0) = cleared ∙ ap (λ (k : ℕ). replicate k (pos 0)) all in
     let begun : acts fs f start c.clear.new.self.items (take top words) ≡ begun_at entry f ∷ [] = rw (c.clear.ensures.items, c.slots-top.ensures.slots) (starts_as fs f entry (take f.slots words) zeros) in
     let from : runs_from fs c.args.steps entry (slice_get fs entry) ≡ runs fs c.args.steps (begun_at entry f ∷ []) = rw (is, shallow) refl in
-    subst (λ (w : Option Ran). RunLeaves w old (g.S.Sink.told c.finish.new.sink) c.finish.result) (ap (runs fs c.args.steps) begun ∙ sym from) (c.finish.ensures wanted old worked)
+    let same : wanted ≡ runs_from fs c.args.steps entry (slice_get fs entry) = ap (runs fs c.args.steps) begun ∙ sym from in
+    let ran = runs_defined fs c.args.steps entry f c.requires.sound is in
+    subst (λ (w : Option Ran). RunLeaves w old (g.S.Sink.told c.finish.new.sink) c.finish.result) same (c.finish.ensures wanted ran.0 old (same ∙ ran.1) worked)

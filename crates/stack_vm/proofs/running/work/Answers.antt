@@ -1,27 +1,21 @@
-use Rattle.std.proofs.Common.{◌≡◌, ℕ, suc, ◌+◌, ◌-◌, ◌<◌, ◌≤◌, List, [], ◌∷◌, ◌++◌, length, take, drop, reverse, get_or, slice_get, ℤ, Option, Some, None, refl, arith, rules, sym, ◌∙◌, ap, subst}
+use Rattle.std.proofs.Common.{◌≡◌, ℕ, suc, ◌+◌, ◌-◌, List, [], ◌++◌, length, take, reverse, get_or, slice_get, ℤ, Option, Some, arith, rules, sym, ◌∙◌, ap, subst}
 use Rattle.std.proofs.lemmas.Option.{slice_get-get_or}
 use Rattle.std.proofs.lemmas.Int.{to_z-of_z}
 use Rattle.std.specs.Int.{w64}
 use Rattle.object_format.specs.Image.{LinkedFn}
-use Rattle.stack_vm.specs.Instruction.{instruction_at}
-use Rattle.stack_vm.specs.Heights.{greatest_of}
 use Rattle.stack_vm.specs.Effect.{Did, DidAt}
-use Rattle.stack_vm.specs.Sound.{Leaves, IsSound}
-use Rattle.stack_vm.specs.Standing.{height, Runs, CallGives, LeaveGives, Called, TooDeep, resumed}
-use Rattle.stack_vm.specs.Acts.{Goes, Ends, Traps, step, runs, Ran, line_of}
-use Rattle.stack_vm.specs.Running.{acts, Counted, WorkLeaves, Keeps}
-use Rattle.stack_vm.specs.SinkState.{SinkState, with_text}
-use Rattle.stack_vm.specs.declared.end.End.{End}
+use Rattle.stack_vm.specs.Standing.{height, LeaveGives, Called, TooDeep}
+use Rattle.stack_vm.specs.Acts.{Goes, step, runs, line_of}
+use Rattle.stack_vm.specs.Running.{acts}
 use Rattle.stack_vm.specs.declared.end.End.TheVariants as end
 use Rattle.stack_vm.specs.declared.end.Kind.TheVariants as kinds
 use Rattle.stack_vm.specs.declared.instruction.Instruction.{Instruction}
 use Rattle.stack_vm.specs.declared.machine.State.{State}
 use Rattle.stack_vm.specs.declared.machine.Frame.{Frame}
-use Rattle.stack_vm.specs.declared.machine.Next.{Next}
 use Rattle.stack_vm.specs.declared.machine.Next.TheVariants as next
 use Rattle.stack_vm.proofs.Frames.{went, found, the_same}
 use Rattle.stack_vm.proofs.Places.{at_within}
-use Rattle.stack_vm.proofs.Loop.{Going, goes_on_quiet, goes_on_loud, ends_here, front_of, rose_since, faults_since, steps_on, prints_on, calls_on, returns_on, returns_last, run_ended, run_trapped, run_over, deep_on, stack_long, counted_same, waits_room, after_text-nil, with_text-nil}
+use Rattle.stack_vm.proofs.Loop.{goes_on_quiet, goes_on_loud, ends_here, front_of, rose_since, faults_since, steps_on, prints_on, calls_on, returns_on, returns_last, run_ended, run_trapped, run_over, deep_on, stack_long, counted_same, waits_room, after_text-nil, with_text-nil}
 use Rattle.stack_vm.proofs.Stops.{traps}
 use Rattle.stack_vm.proofs.running.work.Goals as goal
 use Rattle.stack_vm.proofs.running.work.Goals.{in-Went, in-Call+in-Some, in-Return+in-Some-leave, in-Print+in-Done}

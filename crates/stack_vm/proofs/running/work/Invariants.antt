@@ -1,4 +1,4 @@
-use Rattle.std.proofs.Common.{◌≡◌, ℕ, ◌-◌, ◌≤◌, ◌++◌, List, length, take, reverse, vec_capacity, slice_get, Some}
+use Rattle.std.proofs.Common.{◌≡◌, ◌-◌, ◌≤◌, length, take, reverse, vec_capacity, slice_get, Some}
 use Rattle.object_format.specs.Image.{LinkedFn}
 use Rattle.stack_vm.specs.Standing.{Runs}
 use Rattle.stack_vm.specs.Running.{Counted}

@@ -1,4 +1,4 @@
-use Rattle.std.proofs.Common.{◌≡◌, ap, sym, true, arith}
+use Rattle.std.proofs.Common.{ap, true, arith}
 use Rattle.stack_vm.specs.Valid.{Validated}
 use Rattle.stack_vm.proofs.valid.Valid.reserve.Goals as goal
 
