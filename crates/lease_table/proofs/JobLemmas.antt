@@ -9,6 +9,14 @@ pub times-out_with : (x : ℕ) (o : Option ℕ) (out : List ℕ) → times x (ou
 times-out_with x (Some y) out = times-snoc x y out
 times-out_with x None out = omega arith
 
+pub times_job-le : (x : ℕ) (o : Option ℕ) → times_job x o ≤ 1
+times_job-le x (Some y) = elim (eqb x y) as (λ b. one_if b ≤ 1) [ true ↦ omega arith | false ↦ omega arith ]
+times_job-le x None = omega arith
+
+pub no-times : (l : List ℕ) → ((x : ℕ) → times x l ≡ 0) → l ≡ []
+no-times [] none = refl
+no-times (x ∷ xs) none = let e = none x in let o = one_if-same x in absurd (omega arith)
+
 -- a named job that is absent is there once afterwards
 pub times-out_with-once : (o : Option ℕ) (out : List ℕ) → IsNotOut o out → ((x : ℕ) → times x out ≤ 1) → (x : ℕ) → times x (out_with out o) ≤ 1
 times-out_with-once None out absent once x = once x

@@ -17,8 +17,9 @@ begins slots id l idle s kept _ at small =
     let held : ℕ = kept.0 in
     let running : ℕ = kept.1 in
     let top : ℕ = kept.2 in
-    let out : List ℕ = kept.3 in
-    let h : Holds held running top out s.words s.views = kept.4 in
+    let peak : ℕ = kept.3 in
+    let out : List ℕ = kept.4 in
+    let h : Holds held running top peak out s.words s.views = kept.5 in
     let r = reading held (running + 1) in
     let w = on_lease (lease_begun r) (OfLease l) in
     let share = total-set share_of s.views id (OfLease l) w at in
@@ -30,7 +31,7 @@ begins slots id l idle s kept _ at small =
     let wd = h.word in
     let wide = h.wide in
     let most = h.most in
-    let highest = h.highest in
+    let high = h.high in
     let room : running ≤ held = omega arith in
     let word' : (get_or s.words 0 0 + 1) % 18446744073709551616 ≡ word_of held (running + 1) = omega arith in (
       w,
@@ -40,6 +41,7 @@ begins slots id l idle s kept _ at small =
         held,
         running + 1,
         top,
+        peak,
         out,
         record {
           wide = length-set s.words 0 _ ∙ wide;
@@ -47,10 +49,11 @@ begins slots id l idle s kept _ at small =
           shares = omega arith;
           busies = omega arith;
           most = most;
-          highest = highest;
+          high = high;
+          highest = h.highest;
           jobs = λ x. let t = total-set (job_of x) s.views id (OfLease l) w at in let j = h.jobs x in omega arith;
           once = h.once;
-          fits = fits_set s.views id w (Fits held top out) (Fits held top out) (record { least = omega arith; bound = omega arith; most = highest }, λ _. refl) (λ i v other g. g) h.fits;
+          fits = fits_set s.views id w (Fits held top peak out) (Fits held top peak out) (record { least = omega arith; bound = omega arith; most = high }, λ _. refl) (λ i v other there g. g) h.fits;
         },
       ),
       (held, running, wd, room, most, refl),
@@ -61,9 +64,10 @@ ends slots id l is_busy s kept _ at small =
     let held : ℕ = kept.0 in
     let running : ℕ = kept.1 in
     let top : ℕ = kept.2 in
-    let out : List ℕ = kept.3 in
-    let h : Holds held running top out s.words s.views = kept.4 in
-    let mine : Fits held top out id (OfLease l) = h.fits id (OfLease l) at in
+    let peak : ℕ = kept.3 in
+    let out : List ℕ = kept.4 in
+    let h : Holds held running top peak out s.words s.views = kept.5 in
+    let mine : Fits held top peak out id (OfLease l) = h.fits id (OfLease l) at in
     let w = on_lease lease_ended (OfLease l) in
     let share = total-set share_of s.views id (OfLease l) w at in
     let busy = total-set busy_of s.views id (OfLease l) w at in
@@ -82,6 +86,7 @@ ends slots id l is_busy s kept _ at small =
         held,
         running - 1,
         top,
+        peak,
         out,
         record {
           wide = length-set s.words 0 _ ∙ wide;
@@ -89,10 +94,11 @@ ends slots id l is_busy s kept _ at small =
           shares = omega arith;
           busies = omega arith;
           most = most;
+          high = h.high;
           highest = h.highest;
           jobs = λ x. let t = total-set (job_of x) s.views id (OfLease l) w at in let j = h.jobs x in omega arith;
           once = h.once;
-          fits = fits_set s.views id w (Fits held top out) (Fits held top out) (mine.0, λ no_more. mine.1 is_busy) (λ i v other g. g) h.fits;
+          fits = fits_set s.views id w (Fits held top peak out) (Fits held top peak out) (mine.0, λ no_more. mine.1 is_busy) (λ i v other there g. g) h.fits;
         },
       ),
       refl,

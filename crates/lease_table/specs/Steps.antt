@@ -1,12 +1,13 @@
 -- The kinds of step: which views each changes and how, and what it tells.
-use Rattle.std.specs.Prelude.{◌≡◌, ℕ, ◌+◌, ◌-◌, ◌≤◌, max, true, false, Some, None}
+use Rattle.std.specs.Prelude.{◌≡◌, ℕ, ◌+◌, ◌-◌, ◌≤◌, max, true, false, [], Some, None}
 use Rattle.atomic_table.specs.Table.{Me, Step}
 use Rattle.lease_table.specs.declared.reading.Reading.{Reading}
 use Rattle.lease_table.specs.declared.view.DeskView.{DeskView}
 use Rattle.lease_table.specs.declared.view.LeaseView.{LeaseView}
 use Rattle.lease_table.specs.declared.view.View.{View}
 use Rattle.lease_table.specs.declared.view.View.TheVariants.{OfDesk, OfLease, Spent}
-use Rattle.lease_table.specs.Reading.{reading, word_of, AllBegun, seen_with}
+use Rattle.lease_table.specs.Reading.{reading, word_of, IsBegunIfAny, AllBegun, seen_with}
+use Rattle.lease_table.specs.View.{peak_at}
 use Rattle.lease_table.specs.Jobs.{IsOut, out_with, out_without}
 
 -- a change of the desk's view; any other stays
@@ -23,11 +24,11 @@ on_lease f Spent = Spent
 
 -- the desk, one token more held
 abbrev pub desk_took : DeskView → DeskView
-desk_took d = record d { share = d.share + 1; held = d.held + 1; top = max d.top (d.held + 1) }
+desk_took d = record d { share = d.share + 1; held = d.held + 1; top = max d.top (d.held + 1); peak = max d.peak (d.held + 1) }
 
 -- the desk, one token fewer held
 abbrev pub desk_gave : DeskView → DeskView
-desk_gave d = record d { share = d.share - 1; held = d.held - 1 }
+desk_gave d = record d { share = d.share - 1; held = d.held - 1; peak = peak_at (d.share - 1) (d.held - 1) d.peak }
 
 -- the desk that has named the job of its next lease
 abbrev pub desk_named : ℕ → DeskView → DeskView
@@ -51,7 +52,16 @@ lease_ended l = record l { busy = false }
 
 -- the desk that takes a lease back
 abbrev pub desk_spent : DeskView → LeaseView → DeskView
-desk_spent d l = record d { share = d.share + 1; out = out_without d.out l.job; seen = seen_with d.seen l.job l.word; back = l.job; before = d.out }
+desk_spent d l = record d {
+  share = d.share + 1;
+  peak = peak_at (d.share + 1) d.held d.peak;
+  out = out_without d.out l.job;
+  seen = seen_with d.seen l.job l.word;
+  back = l.job;
+  before = d.out;
+  word = l.word;
+  bound = d.peak;
+}
 
 -- both seats of a lend, and the seats of a spend
 abbrev pub desk_side : View → View
@@ -90,11 +100,13 @@ Began st me found me' =
 abbrev pub Ended : Step (Unit {0}) → Seated → ℕ → Seated → Type 0
 Ended st me found me' = me' ≡ (on_lease lease_ended me.0, me.1)
 
--- what a look at the word tells a desk: the job that came back last was out, each word that was seen is one that a begin step left, and the desk's share is no more than there is
+-- what a look at the word tells a desk: the job that came back last was out, the word that came back last and each word that was seen is one that a begin step left, the desk's share is no more than there is, and where it is all that there is no job is out
 pub record Shown (d : DeskView) : Type 0 where
   pub back : IsOut d.back d.before
+  pub word : IsBegunIfAny d.bound d.word
   pub seen : AllBegun d.top d.seen
   pub share : d.share ≤ d.held + 1
+  pub rest : d.share ≡ d.held + 1 → d.out ≡ []
 
 abbrev pub ShownTo : View → Type 0
 ShownTo (OfDesk d) = Shown d

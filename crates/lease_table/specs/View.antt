@@ -1,5 +1,5 @@
--- What a seat's view counts for, and the view that a desk begins with.
-use Rattle.std.specs.Prelude.{ℕ, [], None}
+-- What a seat's view counts for, the peak of a desk's, and the view that a desk begins with.
+use Rattle.std.specs.Prelude.{ℕ, ◌+◌, ◌==◌, cond, [], None}
 use Rattle.counting.specs.Count.{one_if}
 use Rattle.lease_table.specs.declared.view.View.{View}
 use Rattle.lease_table.specs.declared.view.View.TheVariants.{OfDesk, OfLease, Spent}
@@ -23,6 +23,10 @@ job_of x (OfDesk d) = 0
 job_of x (OfLease l) = times_job x l.job
 job_of x Spent = 0
 
+-- The peak of a desk with this share and this number held, where it was `before` until now: once all shares are at the desk it begins anew with what is held.
+abbrev pub peak_at : ℕ → ℕ → ℕ → ℕ
+peak_at share held before = cond (share == held + 1) held before
+
 -- a desk at the start: one share, nothing held, no job named or out, no word seen
 abbrev pub opened : View
-opened = OfDesk (record { share = 1; held = 0; top = 0; named = None; out = []; seen = []; back = None; before = [] })
+opened = OfDesk (record { share = 1; held = 0; top = 0; peak = 0; named = None; out = []; seen = []; back = None; before = []; word = None; bound = 0 })

@@ -7,9 +7,9 @@
 //! the two numbers that callers ask for.
 ghost use Rattle.std.specs.Prelude.{◌≡◌, ◌+◌, ◌<◌, ◌≤◌, Some, None, IfOk, All, vec_len, vec_capacity};
 ghost use Rattle.counting.specs.Count.{times};
-ghost use Rattle.lease_table.specs.Reading.{AllBegun};
+ghost use Rattle.lease_table.specs.Reading.{IsBegunIfAny, AllBegun};
 ghost use Rattle.lease_table.specs.Jobs.{IsOut};
-ghost use Rattle.lease_table.specs.Desk.{IsFresh, after_took, after_gave, after_lend, after_spend};
+ghost use Rattle.lease_table.specs.Desk.{IsFresh, IsAtRest, after_took, after_gave, after_lend, after_spend};
 
 use crate::lease::Lease;
 use crate::mark::Mark;
@@ -78,14 +78,16 @@ impl Desk {
     pub fn held(&self) -> u8
         ensures held { result ≡ self.now.held }
         ensures most { result ≤ 63 }
+        ensures high { result ≤ self.now.peak }
     {
         self.held
     }
 
-    /// The shares that are at the desk.
+    /// The shares that are at the desk. Where that is all that there are, the desk is at rest.
     pub fn share(&self) -> u8
         ensures share { result ≡ self.now.share }
         ensures most { result ≤ self.now.held + 1 }
+        ensures rest { result ≡ self.now.held + 1 → IsAtRest self.now }
     {
         self.share
     }
@@ -113,7 +115,8 @@ impl Desk {
     pub fn gave(&mut self)
         requires held { 1 ≤ self.old.held }
         requires share { 1 ≤ self.old.share }
-        ensures { self.new ≡ after_gave self.old }
+        ensures desk { self.new ≡ after_gave self.old }
+        ensures fall { self.new.peak ≤ self.old.peak }
     {
         self.table
             .shared()
@@ -167,12 +170,15 @@ impl Desk {
     }
 
     /// Takes a lease back. The load after the join tells what the rule says of it: its job, if it
-    /// has one, was out, and each word that the desk has seen is one that a begin step left.
+    /// has one, was out, and each word that the desk has seen is one that a begin step left. In the
+    /// lease's own word no more were held than since all shares were last at the desk.
     pub fn spend(&mut self, lease: Lease)
         requires { lease.table ≡ self.old.table }
         ensures desk { self.new ≡ after_spend lease self.old }
         ensures was_out { IsOut lease.job self.old.out }
+        ensures last { IsBegunIfAny self.old.peak lease.last }
         ensures seen { AllBegun self.new.top self.new.seen }
+        ensures fall { self.new.peak ≤ self.old.peak }
     {
         let Lease {
             table,

@@ -86,6 +86,24 @@ fn a_lease_begins_twice(rt: HostRuntime) -> Result<(), Fail> {
 }
 
 #[test]
+fn a_second_session_at_one_desk(rt: HostRuntime) -> Result<(), Fail> {
+    let mut desk = Leases::new(rt.alloc())?;
+    desk.took();
+    let (busy, _) = desk.lend_for(5).begin();
+    desk.spend(busy.end());
+    desk.gave();
+    assert_eq!(rt;
+        round_at_rest(&mut desk, 5),
+        Reading {
+            held: 0,
+            running: 1
+        }
+    );
+    desk.close();
+    Ok(())
+}
+
+#[test]
 fn every_token_is_taken_and_given(rt: HostRuntime) -> Result<(), Fail> {
     let mut desk = Leases::new(rt.alloc())?;
     fill(&mut desk);
@@ -109,6 +127,19 @@ fn a_mark_outlives_its_desk(rt: HostRuntime) -> Result<(), Fail> {
 fn a_busy_lease_alone(rt: HostRuntime) -> Result<(), Fail> {
     Busy::alone(rt.alloc())?.leave();
     Ok(())
+}
+
+// One job at a desk that has all its shares and holds nothing, whatever was done at it before. Its
+// share tells that no job is out, and what it holds bounds the reading.
+fn round_at_rest(desk: &mut Desk, job: u32) -> Reading
+    requires { (desk.old.held ≡ 0) × (desk.old.share ≡ 1) }
+    ensures desk { (desk.new.held ≡ 0) × (desk.new.share ≡ 1) × (desk.new.table ≡ desk.old.table) }
+    ensures reading { (result.held ≡ 0) × (result.running ≡ 1) }
+{
+    desk.share();
+    let (busy, reading) = desk.lend_for(job).begin();
+    desk.spend(busy.end());
+    reading
 }
 
 // Takes every token that a desk can hold.

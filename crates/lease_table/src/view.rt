@@ -12,6 +12,8 @@ pub struct DeskView {
     pub held: u64,
     /// The greatest number of tokens that was ever held.
     pub top: u64,
+    /// The greatest number of tokens that was held since all shares were last at the desk.
+    pub peak: u64,
     /// The job of the next lease, between the step that names it and the one that lends.
     pub named: Option<u32>,
     /// The jobs that are out.
@@ -23,6 +25,10 @@ pub struct DeskView {
     /// which tells that the job was out.
     pub back: Option<u32>,
     pub before: LinkedList<u32>,
+    /// The word of the lease that came back last, and `bound`, the peak until then. A spend keeps
+    /// these too, for the look to tell that no more were held in that word.
+    pub word: Option<Reading>,
+    pub bound: u64,
 }
 
 /// What a lease knows.

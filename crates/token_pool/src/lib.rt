@@ -14,7 +14,7 @@
 //! test names, and at no other.
 //!
 //! It stands on the kit's `crossbeam_queue`, whose queue keeps a rule over what it holds and over
-//! what each holder of a pass knows, on `outside` for counted calls, and on `lar_tree` for bytes.
+//! what each holder of a pass knows, on `outside` for counted calls, and on `lar_bytes` for bytes.
 #![tactic(auto)]
 
 mod faulty;

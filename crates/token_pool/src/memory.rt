@@ -13,7 +13,7 @@ use crate::pool::{Given, Take, TokenPool};
 use crate::queue::{ComeBack, GoOut, Queue, give_byte, put_all, take_byte};
 use crate::view::View;
 use crossbeam_queue::Pass;
-use lar_tree::Bytes;
+use lar_bytes::Bytes;
 use std::alloc::{AllocError, Global};
 use std::marker::Model;
 use std::sync::{Arc, Wait};
