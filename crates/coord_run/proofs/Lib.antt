@@ -1,0 +1,13 @@
+pub mod Moving
+pub mod Runs
+pub mod Once
+pub mod AtEachLemmas
+pub mod JournalLemmas
+pub mod PoolLemmas
+pub mod OutcomeLemmas
+pub mod PaidLemmas
+pub mod FedLemmas
+pub mod EventLemmas
+pub mod UnitLemmas
+pub mod DispatchLemmas
+pub mod SessionLemmas

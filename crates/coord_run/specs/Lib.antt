@@ -1,0 +1,11 @@
+pub mod Meaning
+pub mod Messages
+pub mod Rules
+pub mod Static
+pub mod Lanes
+pub mod Pending
+pub mod Journal
+pub mod Outcomes
+pub mod Driven
+pub mod Books
+pub mod Tied
