@@ -10,10 +10,12 @@ use Rattle.larch_cli.specs.FilesState.{FilesState, after_write, holding}
 use Rattle.stack_vm.specs.SinkState.{SinkState, with_text}
 use Rattle.larch_cli.specs.Words.{image_name}
 use Rattle.larch_cli.specs.Build.{AreNumbersIn, after_reading, image_of, summary, Builds, BuildEnds}
-use Rattle.larch_cli.specs.Run.{LoadEnds, Ended, RunEnds}
+use Rattle.larch_cli.specs.Dump.{DumpEnds, listing_at}
+use Rattle.larch_cli.specs.Loading.{LoadEnds}
+use Rattle.larch_cli.specs.Run.{valid_image, Ended, RunEnds}
 use Rattle.larch_cli.specs.Steps.{EndEnds, status_of, WriteEnds, PutEnds}
 use Rattle.larch_cli.specs.declared.status.Status.{Status}
-use Rattle.larch_cli.specs.declared.status.Status.TheVariants.{Done, Usage, Absent, FileFault, SinkFault, Memory, BadFile, Trapped, OutOfSteps, Unsupported}
+use Rattle.larch_cli.specs.declared.status.Status.TheVariants.{Done, Usage, Absent, FileFault, SinkFault, Memory, BadFile, Trapped, OutOfSteps, LinkFault, Unsupported}
 
 written : (files now : FilesState) (out : SinkState) (numbers : List ℤ) → AreNumbersIn files.held numbers → (status : Status) → WriteEnds {T = Unit {0}} (after_reading files) now image_name (image_of numbers) (Err status) → BuildEnds files now out out status
 written files now out numbers are Done h = absurd h
@@ -25,6 +27,7 @@ written files now out numbers are Memory (inl e) = inl (inr (inl e), refl)
 written files now out numbers are Memory (inr e) = inl (inr (inr e), refl)
 written files now out numbers are (BadFile name fault) h = absurd h
 written files now out numbers are (Trapped kind function offset) h = absurd h
+written files now out numbers are (LinkFault fault) h = absurd h
 written files now out numbers are OutOfSteps h = absurd h
 written files now out numbers are Unsupported h = absurd h
 
@@ -54,15 +57,16 @@ put_ends files now out out_now built (Err SinkFault) h = (built, h.0, h.1)
 put_ends files now out out_now built (Err Memory) h = inr (built, h.0, h.1)
 put_ends files now out out_now built (Err (BadFile name fault)) h = absurd h
 put_ends files now out out_now built (Err (Trapped kind function offset)) h = absurd h
+put_ends files now out out_now built (Err (LinkFault fault)) h = absurd h
 put_ends files now out out_now built (Err OutOfSteps) h = absurd h
 put_ends files now out out_now built (Err Unsupported) h = absurd h
 
-ended : (name : List ℕ) (steps : ℕ) (files now : FilesState) (out out_now : SinkState) (image : Linked) (how : End) → LoadEnds name files now (Ok image)
+ended : (name : List ℕ) (steps : ℕ) (files now : FilesState) (out out_now : SinkState) (image : Linked) (how : End) → LoadEnds valid_image name files now (Ok image)
     → (text : List ℕ) × (runs_of image steps ≡ Some (record { how = how; text = text })) × (out_now ≡ with_text text out) → Ended name steps files now out out_now how
 ended name steps files now out out_now image how load (text, gives, put) = record { text = text; gives = record { image = image; loaded = load; gives = gives }; put = put }
 
 -- A valid image was loaded, and its run ended so: the end is the command's.
-pub run_ends : (name : List ℕ) (steps : ℕ) (files now : FilesState) (out out_now : SinkState) (image : Linked) (how : End) (status : Status) → LoadEnds name files now (Ok image)
+pub run_ends : (name : List ℕ) (steps : ℕ) (files now : FilesState) (out out_now : SinkState) (image : Linked) (how : End) (status : Status) → LoadEnds valid_image name files now (Ok image)
     → RunLeaves (runs_of image steps) out out_now how → EndEnds how status → RunEnds name steps files now out out_now status
 run_ends name steps files now out out_now image end.Ended status load leaves is = subst (λ s. RunEnds name steps files now out out_now s) (sym is) (ended name steps files now out out_now image end.Ended load leaves)
 run_ends name steps files now out out_now image (end.Trapped kind function offset) status load leaves is =
@@ -74,7 +78,7 @@ run_ends name steps files now out out_now image end.Memory status load leaves is
     subst (λ s. RunEnds name steps files now out out_now s) (sym is) (inr (leaves.0, record { image = image; loaded = load; front = leaves.1 }))
 
 -- An image that could not be loaded ends the command.
-pub load_ends : (name : List ℕ) (steps : ℕ) (files now : FilesState) (out : SinkState) (status : Status) → LoadEnds name files now (Err status) → RunEnds name steps files now out out status
+pub load_ends : (name : List ℕ) (steps : ℕ) (files now : FilesState) (out : SinkState) (status : Status) → LoadEnds valid_image name files now (Err status) → RunEnds name steps files now out out status
 load_ends name steps files now out Done h = absurd h
 load_ends name steps files now out Usage h = absurd h
 load_ends name steps files now out (Absent other) h = (h, refl)
@@ -85,3 +89,33 @@ load_ends name steps files now out (BadFile other fault) h = (h, refl)
 load_ends name steps files now out (Trapped kind function offset) h = absurd h
 load_ends name steps files now out OutOfSteps h = absurd h
 load_ends name steps files now out Unsupported h = absurd h
+load_ends name steps files now out (LinkFault fault) h = absurd h
+
+-- What could not be loaded ends a dump.
+pub unlisted_ends : (name : List ℕ) (files now : FilesState) (out : SinkState) (status : Status) → LoadEnds listing_at name files now (Err status) → DumpEnds name files now out out status
+unlisted_ends name files now out Done h = absurd h
+unlisted_ends name files now out Usage h = absurd h
+unlisted_ends name files now out (Absent other) h = (h, refl)
+unlisted_ends name files now out (FileFault other) h = (h, refl)
+unlisted_ends name files now out SinkFault h = absurd h
+unlisted_ends name files now out Memory h = inl (h, refl)
+unlisted_ends name files now out (BadFile other fault) h = (h, refl)
+unlisted_ends name files now out (Trapped kind function offset) h = absurd h
+unlisted_ends name files now out (LinkFault fault) h = absurd h
+unlisted_ends name files now out OutOfSteps h = absurd h
+unlisted_ends name files now out Unsupported h = absurd h
+
+-- putting a listing ends the command
+pub listing_ends : (name : List ℕ) (files now : FilesState) (out out_now : SinkState) (text : List ℕ) → LoadEnds listing_at name files now (Ok text) → (put : Result (Unit {0}) Status) → PutEnds out out_now text put → DumpEnds name files now out out_now (status_of put)
+listing_ends name files now out out_now text load (Ok x) h = record { text = text; loaded = load; put = h }
+listing_ends name files now out out_now text load (Err Done) h = absurd h
+listing_ends name files now out out_now text load (Err Usage) h = absurd h
+listing_ends name files now out out_now text load (Err (Absent other)) h = absurd h
+listing_ends name files now out out_now text load (Err (FileFault other)) h = absurd h
+listing_ends name files now out out_now text load (Err SinkFault) h = (h.0, record { text = text; loaded = load; front = h.1 })
+listing_ends name files now out out_now text load (Err Memory) h = inr (h.0, record { text = text; loaded = load; front = h.1 })
+listing_ends name files now out out_now text load (Err (BadFile other fault)) h = absurd h
+listing_ends name files now out out_now text load (Err (Trapped kind function offset)) h = absurd h
+listing_ends name files now out out_now text load (Err (LinkFault fault)) h = absurd h
+listing_ends name files now out out_now text load (Err OutOfSteps) h = absurd h
+listing_ends name files now out out_now text load (Err Unsupported) h = absurd h

@@ -1,5 +1,10 @@
 pub mod Answering
+pub mod CodeLines
 pub mod Counting
 pub mod Endings
+pub mod Gathering
+pub mod LinkEndings
+pub mod Places
 pub mod PrintsLinked
+pub mod Sent
 pub mod WholeFiles

@@ -1,18 +1,19 @@
 -- What a read of at most so many bytes tells of a whole file.
-use Rattle.std.proofs.Common.{◌≡◌, ℕ, nat_lt, true, false, List, [], length, take, Option, Some, None, unwrap_or, Result, IfSome, IsSome, ℤ, refl, ap, sym, ◌∙◌, subst, arith}
+use Rattle.std.proofs.Common.{◌≡◌, ℕ, nat_lt, true, false, List, [], length, take, Option, Some, None, unwrap_or, Result, Ok, Err, inl, inr, ◌⊎◌, IfSome, IsSome, ℤ, refl, ap, sym, ◌∙◌, subst, arith}
 use Rattle.std.specs.Option.{option_map, option_and_then}
 use Rattle.std.specs.FinMap.{get}
 use Rattle.std.proofs.lemmas.List.{take_all, length-take}
 use Rattle.outside.specs.Held.{Held}
-use Rattle.larch_cli.specs.FilesState.{ReadTells}
-use Rattle.object_format.specs.Image.{Linked}
+use Rattle.larch_cli.specs.FilesState.{FilesState, ReadTells}
 use Rattle.object_format.specs.Reading.{refused}
 use Rattle.object_format.specs.declared.fault.BadFile.{BadFile}
 use Rattle.object_format.specs.declared.fault.What.TheVariants.{Long}
-use Rattle.larch_cli.specs.Run.{valid_image, image_in}
+use Rattle.larch_cli.specs.Loading.{IsBadFile, LoadEnds, ReadEnds, limited, spelled_in}
 use Rattle.larch_cli.specs.Words.{source_name}
 use Rattle.larch_cli.specs.Build.{accepted, numbers_in, AreNumbersIn}
 use Rattle.larch_cli.specs.declared.files.Read.TheVariants as read
+use Rattle.larch_cli.specs.declared.status.Status.{Status}
+use Rattle.larch_cli.specs.declared.status.Status.TheVariants as status
 
 abbrev IsNothing : Option (List ℕ) → Type 0
 IsNothing None = Unit {0}
@@ -44,22 +45,43 @@ pub gives_none : (told : Option Held) (bytes : List ℕ) → ReadTells told sour
 gives_none None bytes h e = tt
 gives_none (Some held) bytes h e = let r = read_accepts (Some held) bytes h in (r.1, r.0 ∙ sym e)
 
--- An image that is longer than the limit is seen to be so.
-valid_image-take : (most : ℕ) (bytes : List ℕ) → most ≡ 67108865 → valid_image (take most bytes) ≡ valid_image bytes
-valid_image-take most bytes e =
-    elim (nat_lt (length bytes) most) as (λ b. nat_lt (length bytes) most ≡ b → valid_image (take most bytes) ≡ valid_image bytes) [
-      | true ↦ λ short. ap valid_image (take_all most bytes (grind (arith, short)))
-      | false ↦ λ long. too_long (take most bytes) (grind (arith, long, length-take most bytes, e)) ∙ sym (too_long bytes (grind (arith, long, e)))
+-- A file that is longer than the limit is seen to be so.
+too_long : {X : Type 0} (spelled : List ℕ → Result X BadFile) (bytes : List ℕ) → nat_lt 67108864 (length bytes) ≡ true → limited spelled bytes ≡ refused 67108864 Long
+too_long spelled bytes h = rw h refl
+
+limited-take : {X : Type 0} (spelled : List ℕ → Result X BadFile) (most : ℕ) (bytes : List ℕ) → most ≡ 67108865 → limited spelled (take most bytes) ≡ limited spelled bytes
+limited-take spelled most bytes e =
+    elim (nat_lt (length bytes) most) as (λ b. nat_lt (length bytes) most ≡ b → limited spelled (take most bytes) ≡ limited spelled bytes) [
+      | true ↦ λ short. ap (limited spelled) (take_all most bytes (grind (arith, short)))
+      | false ↦ λ long. too_long spelled (take most bytes) (grind (arith, long, length-take most bytes, e)) ∙ sym (too_long spelled bytes (grind (arith, long, e)))
     ] refl
-  where
-    too_long : (bytes : List ℕ) → nat_lt 67108864 (length bytes) ≡ true → valid_image bytes ≡ refused 67108864 Long
-    too_long bytes h = rw h refl
 
-image_front : (most : ℕ) (o : Option (List ℕ)) (bytes : List ℕ) → most ≡ 67108865 → option_map (take most) o ≡ Some bytes → option_map valid_image o ≡ Some (valid_image bytes)
-image_front most None bytes m e = absurd (subst (λ x. IsNothing x) e tt)
-image_front most (Some c) bytes m e = ap (λ (i : Result Linked BadFile). Some i) (sym (valid_image-take most c m) ∙ ap valid_image (ap (λ x. unwrap_or x []) e))
+spelled_front : {X : Type 0} (spelled : List ℕ → Result X BadFile) (most : ℕ) (o : Option (List ℕ)) (bytes : List ℕ) → most ≡ 67108865 → option_map (take most) o ≡ Some bytes → option_map (limited spelled) o ≡ Some (limited spelled bytes)
+spelled_front spelled most None bytes m e = absurd (subst (λ x. IsNothing x) e tt)
+spelled_front spelled most (Some c) bytes m e = ap (λ i. Some i) (sym (limited-take spelled most c m) ∙ ap (limited spelled) (ap (λ x. unwrap_or x []) e))
 
--- the image of what was read is that of the file
-pub gives_image : (told : Option Held) (name bytes : List ℕ) (image : Result Linked BadFile) → ReadTells told name 67108865 (read.Bytes bytes) → valid_image bytes ≡ image → IfSome told (λ held. image_in held name ≡ Some image)
-gives_image None name bytes image h e = tt
-gives_image (Some held) name bytes image h e = image_front 67108865 (get held name) bytes refl h.1 ∙ ap (λ (i : Result Linked BadFile). Some i) e
+-- what the front that was read spells is what the file spells
+pub gives_spelled : {X : Type 0} (spelled : List ℕ → Result X BadFile) (told : Option Held) (name bytes : List ℕ) (value : Result X BadFile) → ReadTells told name 67108865 (read.Bytes bytes) → limited spelled bytes ≡ value → IfSome told (λ held. spelled_in spelled held name ≡ Some value)
+gives_spelled spelled None name bytes value h e = tt
+gives_spelled spelled (Some held) name bytes value h e = spelled_front spelled 67108865 (get held name) bytes refl h.1 ∙ ap (λ i. Some i) e
+
+is_bad_file : (name : List ℕ) (fault : BadFile) (answer : Status) → IsBadFile name fault answer → (answer ≡ status.BadFile name fault) ⊎ (answer ≡ status.Memory)
+is_bad_file name fault status.Memory h = inr refl
+is_bad_file name fault status.Done h = inl h
+is_bad_file name fault status.Usage h = inl h
+is_bad_file name fault (status.Absent other) h = inl h
+is_bad_file name fault (status.FileFault other) h = inl h
+is_bad_file name fault status.SinkFault h = inl h
+is_bad_file name fault (status.BadFile other why) h = inl h
+is_bad_file name fault (status.Trapped kind function offset) h = inl h
+is_bad_file name fault (status.LinkFault why) h = inl h
+is_bad_file name fault status.OutOfSteps h = inl h
+is_bad_file name fault status.Unsupported h = inl h
+
+-- the front that was read spells nothing, and so does the file
+pub refuses : {X : Type 0} (spelled : List ℕ → Result X BadFile) (files now : FilesState) (name bytes : List ℕ) (fault : BadFile) (answer : Status) → ReadEnds name files now (Ok bytes) → limited spelled bytes ≡ Err fault → IsBadFile name fault answer → LoadEnds spelled name files now (Err answer)
+refuses spelled files now name bytes fault answer ends is bad =
+    elim (is_bad_file name fault answer bad) [
+      | inl named ↦ subst (λ (s : Status). LoadEnds spelled name files now (Err s)) (sym named) (refl, gives_spelled spelled files.held name bytes (Err fault) ends.0 is, ends.1)
+      | inr none ↦ subst (λ (s : Status). LoadEnds spelled name files now (Err s)) (sym none) (inr ends.1)
+    ]

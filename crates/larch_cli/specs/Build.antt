@@ -12,7 +12,7 @@ use Rattle.stack_vm.specs.SinkState.{SinkState, with_text}
 use Rattle.larch_cli.specs.ThinImage.{thin_image}
 use Rattle.larch_cli.specs.Words.{source_name, image_name}
 use Rattle.larch_cli.specs.declared.status.Status.{Status}
-use Rattle.larch_cli.specs.declared.status.Status.TheVariants.{Done, Usage, Absent, FileFault, SinkFault, Memory, BadFile, Trapped, OutOfSteps, Unsupported}
+use Rattle.larch_cli.specs.declared.status.Status.TheVariants.{Done, Usage, Absent, FileFault, SinkFault, Memory, BadFile, Trapped, OutOfSteps, LinkFault, Unsupported}
 
 -- the numbers of a source of at most 16,777,216 bytes in the thin form
 abbrev pub accepted : List ℕ → Option (List ℤ)
@@ -76,4 +76,5 @@ BuildEnds files files_now out out_now Memory = (StopsEarly files files_now × (o
 BuildEnds files files_now out out_now Usage = ⊥
 BuildEnds files files_now out out_now (BadFile name fault) = ⊥
 BuildEnds files files_now out out_now (Trapped kind function offset) = ⊥
+BuildEnds files files_now out out_now (LinkFault fault) = ⊥
 BuildEnds files files_now out out_now OutOfSteps = ⊥

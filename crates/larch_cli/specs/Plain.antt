@@ -1,7 +1,7 @@
 -- How the top call ends, and what it leaves.
 use Rattle.std.specs.Prelude.{ℕ, ◌≡◌, ◌≢◌, ◌⊎◌, List, [], Option, Some, None, Result, Ok, Err, IfSome, ℤ}
 use Rattle.std.specs.FinMap.{get, insert}
-use Rattle.object_format.specs.Image.{Linked}
+use Rattle.object_format.specs.Image.{Linked, image_spelling}
 use Rattle.object_format.specs.declared.fault.BadFile.{BadFile}
 use Rattle.outside.specs.Counts.{Rose}
 use Rattle.outside.specs.Held.{Held}
@@ -9,14 +9,17 @@ use Rattle.stack_vm.specs.Acts.{Ran, runs_of}
 use Rattle.stack_vm.specs.SinkState.{SinkState, with_text}
 use Rattle.stack_vm.specs.declared.end.End.{End}
 use Rattle.stack_vm.specs.declared.end.End.TheVariants as end
+use Rattle.larch_cli.specs.Dump.{DumpEnds, listing_at}
 use Rattle.larch_cli.specs.FilesState.{FilesState}
+use Rattle.larch_cli.specs.Link.{LinkEnds, functions_line, image_from}
+use Rattle.larch_cli.specs.Loading.{spelled_in}
 use Rattle.larch_cli.specs.Status.{line_of}
 use Rattle.larch_cli.specs.Words.{command_of, source_name, image_name}
 use Rattle.larch_cli.specs.Report.{Reported}
-use Rattle.larch_cli.specs.Run.{RunEnds, image_in}
+use Rattle.larch_cli.specs.Run.{RunEnds, valid_image}
 use Rattle.larch_cli.specs.Build.{BuildEnds, accepted, image_of, summary}
 use Rattle.larch_cli.specs.declared.words.Command.{Command}
-use Rattle.larch_cli.specs.declared.words.Command.TheVariants.{Build, Run}
+use Rattle.larch_cli.specs.declared.words.Command.TheVariants.{Build, Run, Dump, Link}
 use Rattle.larch_cli.specs.declared.status.Status.{Status}
 use Rattle.larch_cli.specs.declared.status.Status.TheVariants as status
 use Rattle.larch_cli.specs.declared.status.Status.TheVariants.{Done, Usage, Absent, FileFault, SinkFault, Memory, Trapped, OutOfSteps, Unsupported}
@@ -26,6 +29,9 @@ pub record Outside : Type 0 where
   pub files : FilesState
   pub out : SinkState
   pub err : SinkState
+
+abbrev pub seen : FilesState → SinkState → SinkState → Outside
+seen files out err = record { files = files; out = out; err = err }
 
 -- Words that are not served touch nothing. Reading the words may want memory.
 abbrev pub NotServed : FilesState → FilesState → SinkState → SinkState → Status → Type 0
@@ -38,6 +44,8 @@ abbrev pub CommandEnds : Option Command → FilesState → FilesState → SinkSt
 CommandEnds None files files_now out out_now status = NotServed files files_now out out_now status
 CommandEnds (Some Build) files files_now out out_now status = BuildEnds files files_now out out_now status
 CommandEnds (Some (Run name steps)) files files_now out out_now status = RunEnds name steps files files_now out out_now status
+CommandEnds (Some (Dump name)) files files_now out out_now status = DumpEnds name files files_now out out_now status
+CommandEnds (Some (Link names output)) files files_now out out_now status = LinkEnds names output files files_now out out_now status
 
 -- Some status was wanted, by its cause and with what it leaves, and was reported.
 pub record PlainEnds (words : List (List ℕ)) (before now : Outside) (answer : Status) : Type 0 where
@@ -85,11 +93,24 @@ abbrev pub run_of_file : List ℕ → ℕ → Option (Result Linked BadFile) →
 run_of_file name steps None held = refused (Absent name) held
 run_of_file name steps (Some image) held = loaded name steps image held
 
+-- the listing, or why there is none
+abbrev pub listed : List ℕ → Option (Result (List ℕ) BadFile) → Held → Answer
+listed name None held = refused (Absent name) held
+listed name (Some (Err fault)) held = refused (status.BadFile name fault) held
+listed name (Some (Ok text)) held = record { status = Done; out = text; err = []; files = held }
+
+-- the image that was linked, or why there is none
+abbrev pub linked_to : List ℕ → Result Linked Status → Held → Answer
+linked_to output (Err status) held = refused status held
+linked_to output (Ok image) held = record { status = Done; out = functions_line image; err = []; files = insert held output (image_spelling image) }
+
 -- the answer of a command over these files
 abbrev pub answer_of : Option Command → Held → Answer
 answer_of None held = refused Usage held
 answer_of (Some Build) held = built (get held source_name) held
-answer_of (Some (Run name steps)) held = run_of_file name steps (image_in held name) held
+answer_of (Some (Run name steps)) held = run_of_file name steps (spelled_in valid_image held name) held
+answer_of (Some (Dump name)) held = listed name (spelled_in listing_at held name) held
+answer_of (Some (Link names output)) held = linked_to output (image_from held names) held
 
 -- the answer to these words over these files
 abbrev pub answer_to : List (List ℕ) → Held → Answer

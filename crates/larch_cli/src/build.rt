@@ -1,3 +1,6 @@
+//! The command that builds. Its steps are a row: the source is read and judged before anything is written, the image is whole
+//! before its write, and the line of units comes last, so that what it says is true when it is put.
+
 ghost use Rattle.std.specs.Prelude.{◌≡◌};
 ghost use Rattle.larch_cli.specs.Build.{BuildEnds};
 ghost use Rattle.larch_cli.specs.Steps.{status_of};

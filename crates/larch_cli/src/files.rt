@@ -1,7 +1,11 @@
+//! What the commands want of files, and no more: to read a front of one by its name, and to put bytes in the place of one. An
+//! object may tell contracts what its names hold; it always counts its faults, the bytes that reads asked for and the writes,
+//! so a contract over real folders still says what was asked of them.
+
 ghost use Rattle.std.specs.Prelude.{IfOk};
 ghost use Rattle.larch_cli.specs.FilesState.{FilesState, ReadTells, ReadLeaves, WriteLeaves};
 
-use lar_tree::Bytes;
+use lar_bytes::Bytes;
 use std::alloc::{AllocError, Global};
 
 /// What a read gave.

@@ -1,9 +1,13 @@
-ghost use Rattle.std.specs.Prelude.{◌≤◌, length, IfOk};
+//! Files of the current folder: the trusted edge of the crate, a few calls of std for each method, which tells nothing of content.
+//! A fault is counted where it is seen, and a name is never seen half written.
+
+ghost use Rattle.std.specs.Prelude.{◌≡◌, ◌≤◌, length, IfOk};
 
 use crate::{Files, Read, Wrote};
-use lar_tree::Bytes;
+use lar_bytes::Bytes;
 use std::alloc::{AllocError, Global};
 use std::io::{ErrorKind, Read as _};
+use std::marker::Model;
 use std::{fs, io, rt};
 
 /// The files of the current folder. It tells nothing of what they hold.
@@ -19,9 +23,21 @@ pub struct FolderFiles<R: rt::Files + Drop> {
     writes: u64,
 }
 
+impl<R: rt::Files + Drop> Model for FolderFiles<R> {
+    ghost use Rattle.larch_cli.specs.FolderCounts.{FolderCounts, coded_counts};
+
+    ghost Value = { FolderCounts };
+
+    ghost coded = { coded_counts };
+
+    ghost view = { λ f. record { faults = f.faults; asked = f.asked; writes = f.writes } };
+}
+
 impl<R: rt::Files + Drop> FolderFiles<R> {
     /// The files that the runtime reaches by plain names.
-    pub fn new(rt: R) -> FolderFiles<R> {
+    pub fn new(rt: R) -> FolderFiles<R>
+        ensures { result ≡ record { faults = 0; asked = 0; writes = 0 } }
+    {
         FolderFiles {
             rt,
             faults: 0,
@@ -47,9 +63,9 @@ fn write_whole<R: rt::Files>(rt: &R, name: &str, beside: &str, bytes: &[u8]) -> 
 }
 
 impl<R: rt::Files + Drop> Files for FolderFiles<R> {
-    ghost use Rattle.std.specs.Prelude.{None};
+    ghost use Rattle.larch_cli.specs.FolderCounts.{folder_told};
 
-    ghost told = { λ files. record { held = None; faults = files.faults; asked = files.asked; writes = files.writes } };
+    ghost told = { λ files. folder_told files };
 
     fn read(&mut self, alloc: Global, name: &str, most: u64) -> Result<Read, AllocError> {
         self.asked = self.asked.saturating_add(most);

@@ -5,15 +5,21 @@
 //! and the files. Each command is a row of steps, and a step answers a value or the status that ends the command, so the order
 //! of refusals is the order of the steps.
 //!
-//! It stands on lar_syntax for the sources, object_format and stack_vm for images, and outside for what the world is to a contract.
+//! It stands on lar_syntax for the sources, object_format, symbol_link and stack_vm for objects and images, and outside for what
+//! the world is to a contract.
 #![tactic(auto)]
 
 mod build;
+mod dump;
 mod files;
 mod folder_files;
 mod image;
+mod line;
+mod link;
+mod listing;
 mod loading;
 mod memory_files;
+mod names;
 mod plain;
 mod reporting;
 mod run;
@@ -29,6 +35,10 @@ pub use plain::larch_plain;
 pub use reporting::report;
 pub use status::Status;
 
+#[cfg(test)]
+mod dump_tests;
+#[cfg(test)]
+mod link_tests;
 #[cfg(test)]
 mod run_tests;
 #[cfg(test)]

@@ -1,47 +1,116 @@
-//! Image files of the command line, read, checked and made ready.
+//! Files of bytes that commands read: each once and to one byte past its limit, so that a file that is too long is seen to be so. The
+//! bytes are let go as soon as they are decoded.
 
-ghost use Rattle.std.specs.Prelude.{◌≡◌, Result};
-ghost use Rattle.lar_tree.specs.Answers.{Answers};
-ghost use Rattle.larch_cli.specs.Run.{valid_image, LoadEnds};
+ghost use Rattle.std.specs.Prelude.{Ok, Result};
+ghost use Rattle.lar_bytes.specs.Answers.{Answers};
+ghost use Rattle.object_format.specs.ObjectReading.{object_at};
+ghost use Rattle.larch_cli.specs.Dump.{listing_at, text_of, text_of_listed};
+ghost use Rattle.larch_cli.specs.Loading.{IsBadFile, LoadEnds, ReadEnds, limited};
+ghost use Rattle.larch_cli.specs.Run.{valid_image};
 ghost use Rattle.larch_cli.specs.Steps.{image_of_valid};
 
+use crate::dump::Listed;
 use crate::{Files, Read, Status};
-use lar_tree::{Bytes, OrMemory, Text};
-use object_format::{BadFile, What, read_image};
+use lar_bytes::{Bytes, OrMemory, Text};
+use object_format::{BadFile, Object, What, read_image, read_object};
 use stack_vm::{Valid, validate};
 use std::alloc::Global;
 
-const MOST_OF_IMAGE: u64 = 67_108_864;
+const MOST_OF_FILE: u64 = 67_108_864;
 
-// The valid image that the bytes spell, or the first fault. The bytes are let go before the image is validated.
-fn valid_image(alloc: Global, bytes: Bytes) -> Result<Valid, OrMemory<BadFile>>
-    ensures { Answers (λ valid. valid.image) result (valid_image bytes) }
+// Reads the file with this name.
+pub(crate) fn read_file<F: Files>(
+    alloc: Global,
+    files: &mut F,
+    name: &Text,
+) -> Result<Bytes, Status>
+    ensures { ReadEnds name.now (F.told files.old) (F.told files.new) result }
 {
-    if bytes.len() as u64 > MOST_OF_IMAGE {
-        return Err(OrMemory::Refused(BadFile {
-            at: MOST_OF_IMAGE,
-            what: What::Long,
-        }));
+    let text = name.as_str();
+    let named = Text::copied(alloc, text)?;
+    match files.read(alloc, text, MOST_OF_FILE + 1) {
+        Ok(Read::Bytes(bytes)) => Ok(bytes),
+        Ok(Read::Absent) => Err(Status::Absent(named)),
+        Ok(Read::Failed) => Err(Status::FileFault(named)),
+        Err(_) => Err(Status::Memory),
     }
+}
+
+// Whether a file is not too long.
+fn within_limit(bytes: &Bytes) -> Result<(), OrMemory<BadFile>>
+    ensures { Answers (λ x. x) result (limited (λ _. Ok tt) bytes.now) }
+{
+    if bytes.len() as u64 > MOST_OF_FILE {
+        Err(OrMemory::Refused(BadFile {
+            at: MOST_OF_FILE,
+            what: What::Long,
+        }))
+    } else {
+        Ok(())
+    }
+}
+
+fn valid_image_of(alloc: Global, bytes: Bytes) -> Result<Valid, OrMemory<BadFile>>
+    ensures { Answers (λ valid. valid.image) result (limited valid_image bytes) }
+{
+    within_limit(&bytes)?;
     let image = read_image(alloc, bytes.as_slice())?;
     validate(alloc, image)
 }
 
-/// Reads the image with this name, once and to one byte past its limit, and validates it.
-pub(crate) fn load<F: Files>(alloc: Global, files: &mut F, name: &Text) -> Result<Valid, Status>
-    ensures { LoadEnds name.now (F.told files.old) (F.told files.new) (image_of_valid result) }
+fn listed_of(alloc: Global, bytes: Bytes) -> Result<Listed, OrMemory<BadFile>>
+    ensures { Answers text_of result (limited listing_at bytes) }
 {
-    let text = name.as_str();
-    let named = Text::copied(alloc, text)?;
-    let bytes = match files.read(alloc, text, MOST_OF_IMAGE + 1) {
-        Ok(Read::Bytes(bytes)) => bytes,
-        Ok(Read::Absent) => return Err(Status::Absent(named)),
-        Ok(Read::Failed) => return Err(Status::FileFault(named)),
-        Err(_) => return Err(Status::Memory),
-    };
-    match valid_image(alloc, bytes) {
+    within_limit(&bytes)?;
+    if bytes.as_slice().starts_with(b"LROB") {
+        Ok(Listed::Object(read_object(alloc, bytes.as_slice())?))
+    } else {
+        Ok(Listed::Image(read_image(alloc, bytes.as_slice())?))
+    }
+}
+
+// The refusal of a file, or want of memory for its name.
+fn bad_file(alloc: Global, name: &Text, fault: BadFile) -> Status
+    ensures { IsBadFile name.now fault result }
+{
+    match Text::copied(alloc, name.as_str()) {
+        Ok(name) => Status::BadFile(name, fault),
+        Err(_) => Status::Memory,
+    }
+}
+
+/// The object that the bytes of a file spell.
+pub(crate) fn object_of(alloc: Global, bytes: Bytes) -> Result<Object, OrMemory<BadFile>>
+    ensures { Answers (λ object. object) result (limited object_at bytes) }
+{
+    within_limit(&bytes)?;
+    read_object(alloc, bytes.as_slice())
+}
+
+/// Reads the image with this name and validates it.
+pub(crate) fn load<F: Files>(alloc: Global, files: &mut F, name: &Text) -> Result<Valid, Status>
+    ensures { LoadEnds valid_image name.now (F.told files.old) (F.told files.new) (image_of_valid result) }
+{
+    let bytes = read_file(alloc, files, name)?;
+    match valid_image_of(alloc, bytes) {
         Ok(valid) => Ok(valid),
-        Err(OrMemory::Refused(fault)) => Err(Status::BadFile(named, fault)),
+        Err(OrMemory::Refused(fault)) => Err(bad_file(alloc, name, fault)),
+        Err(OrMemory::Memory) => Err(Status::Memory),
+    }
+}
+
+/// Reads the object or image with this name.
+pub(crate) fn load_listed<F: Files>(
+    alloc: Global,
+    files: &mut F,
+    name: &Text,
+) -> Result<Listed, Status>
+    ensures { LoadEnds listing_at name.now (F.told files.old) (F.told files.new) (text_of_listed result) }
+{
+    let bytes = read_file(alloc, files, name)?;
+    match listed_of(alloc, bytes) {
+        Ok(listed) => Ok(listed),
+        Err(OrMemory::Refused(fault)) => Err(bad_file(alloc, name, fault)),
         Err(OrMemory::Memory) => Err(Status::Memory),
     }
 }

@@ -1,3 +1,6 @@
+//! Files in memory, for tests and for whoever wants a command's answer without a folder. They tell all that they hold, and fail
+//! exactly at the calls that they are told to, so each fault of a command can be met in turn.
+
 ghost use Rattle.std.specs.Prelude.{◌≡◌, ◌↔◌, Ok, Contains, IsTrue, IfOk, map};
 ghost use Rattle.std.specs.Option.{option_map};
 ghost use Rattle.std.specs.FinMap.{get};
@@ -5,7 +8,8 @@ ghost use Rattle.larch_cli.specs.FilesState.{ReadTells, ReadLeaves, WriteLeaves}
 ghost use Rattle.larch_cli.specs.MemoryFilesState.{files_told, held_by, are_distinct};
 
 use crate::{Files, Read, Wrote};
-use lar_tree::{Bytes, File};
+use lar_bytes::Bytes;
+use lar_tree::File;
 use outside::{FailingCalls, HeldBytes};
 use std::alloc::{AllocError, Global};
 use std::marker::Model;

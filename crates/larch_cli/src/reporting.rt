@@ -1,3 +1,6 @@
+//! What is said of a status. It is the last thing that a command line does, and may fail like any put: the status is then that
+//! fault. Where there is no memory for a line that names something, the line of want of memory is tried, which needs none.
+
 ghost use Rattle.larch_cli.specs.Report.{Reported};
 
 use crate::Status;

@@ -1,9 +1,12 @@
+//! The command that runs an image. All that can be refused is refused before the first step: the image is read, validated and given
+//! its memory, and from then on only the program's own end, its steps and its sink decide.
+
 ghost use Rattle.larch_cli.specs.Run.{RunEnds};
 ghost use Rattle.larch_cli.specs.Steps.{status_of, EndEnds};
 
 use crate::loading::load;
 use crate::{Files, Status};
-use lar_tree::Text;
+use lar_bytes::Text;
 use stack_vm::{End, Sink, run};
 use std::alloc::Global;
 

@@ -1,5 +1,6 @@
 use super::*;
-use lar_tree::{Bytes, File, Text};
+use lar_bytes::{Bytes, Text};
+use lar_tree::File;
 use stack_vm::MemorySink;
 use std::alloc::{AllocError, Global};
 use std::test::Fail;
@@ -57,7 +58,7 @@ fn run(
 fn images_are_run(rt: HostRuntime) -> Result<(), Fail> {
     let alloc = rt.alloc();
     let plain: &[&str] = &["run", "a.lrpx"];
-    let cases: [(&[&str], &[u8], u8, &str, &str); 9] = [
+    let cases: [(&[&str], &[u8], u8, &str, &str); 12] = [
         (plain, &SEVEN, 0, "7\n", ""),
         (&["run", "a.lrpx", "--steps", "3"], &SEVEN, 0, "7\n", ""),
         (
@@ -72,6 +73,15 @@ fn images_are_run(rt: HostRuntime) -> Result<(), Fail> {
             &SEVEN,
             12,
             "",
+            "larchc: out of steps\n",
+        ),
+        (&["run", "--steps=3", "a.lrpx"], &SEVEN, 0, "7\n", ""),
+        (&["run", "--", "a.lrpx"], &SEVEN, 0, "7\n", ""),
+        (
+            &["run", "--steps", "2", "--", "a.lrpx"],
+            &SEVEN,
+            12,
+            "7\n",
             "larchc: out of steps\n",
         ),
         (plain, &DIVIDES, 11, "", "larchc: trap division at 0:4\n"),
@@ -116,7 +126,7 @@ fn images_are_run(rt: HostRuntime) -> Result<(), Fail> {
 #[test]
 fn words_of_a_run_are_read(rt: HostRuntime) -> Result<(), Fail> {
     let alloc = rt.alloc();
-    let cases: [&[&str]; 11] = [
+    let cases: [&[&str]; 18] = [
         &["run"],
         &["run", ""],
         &["run", ".lrpx"],
@@ -128,6 +138,13 @@ fn words_of_a_run_are_read(rt: HostRuntime) -> Result<(), Fail> {
         &["run", "a.lrpx", "--steps", "000000000000000000001"],
         &["run", "a.lrpx", "--steps", "3x"],
         &["run", "a.lrpx", "--steps", "3", "3"],
+        &["run", "a.lrpx", "--steps", "3", "--steps=3"],
+        &["run", "a.lrpx", "--steps="],
+        &["run", "--steps", "--", "a.lrpx"],
+        &["run", "a.lrpx", "--", "--steps", "3"],
+        &["run", "a.lrpx", "--step", "3"],
+        &["run", "-s", "a.lrpx"],
+        &["run", "a.lrpx", "-"],
     ];
     for words in cases {
         let left = run(alloc, words, &SEVEN, &[], &[])?;

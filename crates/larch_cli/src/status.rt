@@ -1,11 +1,15 @@
+//! How a command line ends: one status for each kind of end, with what its line has to name. The number and the line are functions of
+//! the status alone, and both are part of the contract of the program.
+
 ghost use Rattle.std.specs.Prelude.{◌≡◌, ◌++◌, IfOk, codes, string_bytes};
 ghost use Rattle.std.specs.Fmt.{decimal};
-ghost use Rattle.larch_cli.specs.Status.{kind_word, line_of, number_of};
+ghost use Rattle.larch_cli.specs.Status.{kind_word, line_of, link_line, number_of};
 
-use lar_tree::Text;
+use lar_bytes::Text;
 use object_format::BadFile;
 use stack_vm::Kind;
 use std::alloc::{AllocError, Global};
+use symbol_link::LinkFault;
 
 /// How a command ended.
 #[derive(Debug, Drop)]
@@ -24,6 +28,8 @@ pub enum Status {
     Memory,
     /// The file with this name is no valid image, by this first fault.
     BadFile(Text, BadFile),
+    /// The objects cannot be linked, for this first reason.
+    LinkFault(LinkFault),
     /// The run trapped for this reason, in this function at this offset of its code.
     Trapped(Kind, u32, u32),
     /// The run did not end within its steps.
@@ -49,6 +55,35 @@ fn bad_file_line(alloc: Global, name: &str, at: u64, what: &str) -> Result<Strin
     format!(in alloc; "larchc: {name}: bad file at {at}: {what}\n")
 }
 
+fn twice_line(alloc: Global, symbol: &str, first: u32, second: u32) -> Result<String, AllocError>
+    ensures { IfOk result (λ line. string_bytes line ≡ codes "larchc: link: " ++ (symbol.now ++ (codes " defined in " ++ (decimal first ++ (codes " and " ++ (decimal second ++ codes "\n")))))) }
+{
+    format!(in alloc; "larchc: link: {symbol} defined in {first} and {second}\n")
+}
+
+fn undefined_line(alloc: Global, symbol: &str, object: u32) -> Result<String, AllocError>
+    ensures { IfOk result (λ line. string_bytes line ≡ codes "larchc: link: " ++ (symbol.now ++ (codes " undefined in " ++ (decimal object ++ codes "\n")))) }
+{
+    format!(in alloc; "larchc: link: {symbol} undefined in {object}\n")
+}
+
+fn link_line(alloc: Global, fault: &LinkFault) -> Result<String, AllocError>
+    ensures { IfOk result (λ line. string_bytes line ≡ link_line fault.now) }
+{
+    match fault {
+        LinkFault::Twice {
+            symbol,
+            first,
+            second,
+        } => twice_line(alloc, symbol.as_str(), *first, *second),
+        LinkFault::Undefined { symbol, object } => {
+            undefined_line(alloc, symbol.as_str(), *object)
+        }
+        LinkFault::NoEntry => format!(in alloc; "larchc: link: no entry\n"),
+        LinkFault::TooLarge => format!(in alloc; "larchc: link: image over 67108864 bytes\n"),
+    }
+}
+
 fn trap_line(alloc: Global, kind: &str, function: u32, offset: u32) -> Result<String, AllocError>
     ensures { IfOk result (λ line. string_bytes line ≡ codes "larchc: trap " ++ (kind.now ++ (codes " at " ++ (decimal function ++ (codes ":" ++ (decimal offset ++ codes "\n")))))) }
 {
@@ -68,6 +103,7 @@ impl Status {
             Status::SinkFault => 6,
             Status::Memory => 8,
             Status::BadFile(_, _) => 9,
+            Status::LinkFault(_) => 10,
             Status::Trapped(_, _, _) => 11,
             Status::OutOfSteps => 12,
             Status::Unsupported => 13,
@@ -94,6 +130,7 @@ impl Status {
             Status::BadFile(name, fault) => {
                 bad_file_line(alloc, name.as_str(), fault.at, fault.what.word())
             }
+            Status::LinkFault(fault) => link_line(alloc, fault),
             Status::Trapped(kind, function, offset) => {
                 trap_line(alloc, kind_word(*kind), *function, *offset)
             }

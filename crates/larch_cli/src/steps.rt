@@ -1,3 +1,7 @@
+//! The steps that commands are made of: to read a source, to make an image's bytes, to write a file, to put text. A step answers a
+//! value, or the status that ends its command with the name that the report needs; the name is copied before the step touches the
+//! outside, so want of memory for it leaves everything as it was.
+
 ghost use Rattle.std.specs.Prelude.{◌≡◌, ◌≤◌, length, IfOk, IfSome};
 ghost use Rattle.std.specs.Option.{option_map};
 ghost use Rattle.std.specs.Str.{IsAscii};
@@ -7,8 +11,9 @@ ghost use Rattle.larch_cli.specs.Build.{accepted};
 ghost use Rattle.larch_cli.specs.Steps.{SourceEnds, WriteEnds, PutEnds};
 
 use crate::{Files, Read, Status, Wrote, image_of_prints};
+use lar_bytes::{Bytes, Text};
 use lar_syntax::thin;
-use lar_tree::{Bytes, File, Text};
+use lar_tree::File;
 use object_format::write_image;
 use stack_vm::{Putting, Sink, put_all};
 use std::alloc::{AllocError, Global};

@@ -1,5 +1,6 @@
 use super::*;
-use lar_tree::{Bytes, File, Text};
+use lar_bytes::{Bytes, Text};
+use lar_tree::File;
 use stack_vm::{MemorySink, Put, Sink};
 use std::alloc::{AllocError, Global};
 use std::process::Abort;

@@ -1,12 +1,16 @@
-//! The words of the command line, read by hand while they are so few: `build main.larch --jobs 1`, `run NAME` and
-//! `run NAME --steps N`, and no others.
+//! The table of commands: each has its options, their defaults and ranges, and its file words. A line of words is first sorted
+//! into file words and options, and the command then takes what it serves and refuses the rest. `build` has just one form so
+//! far, and its words are compared one for one.
 
-ghost use Rattle.std.specs.Prelude.{◌≡◌, ◌<◌, ◌-◌, ◌^◌, min, map, string_bytes, IsTrue, IfOk};
+ghost use Rattle.std.specs.Prelude.{◌≡◌, ◌<◌, ◌≤◌, ◌+◌, ◌-◌, length, ◌^◌, ◌∷◌, [], min, map, codes, string_bytes, option_map, IsTrue, IfOk};
 ghost use Rattle.std.specs.List.{list_all};
 ghost use Rattle.lar_syntax.specs.Thin as thin;
+ghost use Rattle.larch_cli.specs.Line as lines;
 ghost use Rattle.larch_cli.specs.Words as spec;
 
-use lar_tree::Text;
+use crate::line::{Given, line_of};
+use crate::names::Names;
+use lar_bytes::Text;
 use std::alloc::{AllocError, Global};
 
 /// A command of the command line, with what its words say.
@@ -16,9 +20,11 @@ pub enum Command {
     Build,
     /// Runs the image with this name, for at most so many steps.
     Run(Text, u64),
+    /// Lists the object or image with this name.
+    Dump(Text),
+    /// Links the objects in these files into the image with this name.
+    Link(Names, Text),
 }
-
-const STEPS: u64 = 100_000_000;
 
 const MOST_STEPS: u64 = 1_000_000_000_000;
 
@@ -122,38 +128,15 @@ fn number_in(least: u64, most: u64, word: &str) -> Option<u64>
     }
 }
 
-fn run_named(alloc: Global, name: &str, steps: Option<u64>) -> Result<Option<Command>, AllocError>
-    ensures { IfOk result (λ found. found ≡ spec.run_named name.now steps) }
+// The one file word of a line, where it names a file.
+fn one_name<'a>(files: &[&'a str]) -> Option<&'a str>
+    ensures { option_map (λ name. name.now) result ≡ spec.one_name (map (λ file. file.now) files.now) }
 {
-    let Some(steps) = steps else {
-        return Ok(None);
-    };
-    if !is_name(name) {
-        return Ok(None);
-    }
-    Ok(Some(Command::Run(Text::copied(alloc, name)?, steps)))
-}
-
-fn steps_number(words: &[String]) -> Option<u64>
-    ensures { result ≡ spec.steps_number (map string_bytes words.now) }
-{
-    match words {
+    match files {
         [] => None,
-        [number, rest @ ..] => match rest {
-            [] => number_in(1, MOST_STEPS, number.as_str()),
-            [_, ..] => None,
-        },
-    }
-}
-
-fn steps_of(words: &[String]) -> Option<u64>
-    ensures { result ≡ spec.steps_of (map string_bytes words.now) }
-{
-    match words {
-        [] => Some(STEPS),
-        [word, words @ ..] => {
-            if word.as_str() == "--steps" {
-                steps_number(words)
+        [name, more @ ..] => {
+            if more.is_empty() && is_name(name) {
+                Some(*name)
             } else {
                 None
             }
@@ -161,27 +144,125 @@ fn steps_of(words: &[String]) -> Option<u64>
     }
 }
 
-fn run_of(alloc: Global, words: &[String]) -> Result<Option<Command>, AllocError>
-    ensures { IfOk result (λ found. found ≡ spec.run_of (map string_bytes words.now)) }
+// The value that a line gives to an option, or the default. There is none where the option stands twice.
+fn value_or<'a>(default: &'a str, name: &str, given: &[Given<'a>]) -> Option<&'a str>
+    ensures { option_map (λ value. value.now) result ≡ spec.value_or default.now (spec.values_of name.now (map lines.given_shown given.now)) }
 {
-    match words {
-        [] => Ok(None),
-        [word, words @ ..] => {
-            if word.as_str() == "run" {
-                name_of(alloc, words)
-            } else {
-                Ok(None)
+    let mut found = None;
+    for given in given {
+        if given.name == name {
+            if found.is_some() {
+                return None;
             }
+            found = Some(given.value);
+        }
+    }
+    Some(found.unwrap_or(default))
+}
+
+// run NAME --steps N
+fn run_of(alloc: Global, words: &[String]) -> Result<Option<Command>, AllocError>
+    ensures { IfOk result (λ found. found ≡ spec.run_of (lines.line_of (codes "steps" ∷ []) (map string_bytes words.now))) }
+{
+    let Some(line) = line_of(alloc, &["steps"], words)? else {
+        return Ok(None);
+    };
+    let Some(name) = one_name(line.files.as_slice()) else {
+        return Ok(None);
+    };
+    let Some(value) = value_or("100000000", "steps", line.given.as_slice()) else {
+        return Ok(None);
+    };
+    let Some(steps) = number_in(1, MOST_STEPS, value) else {
+        return Ok(None);
+    };
+    Ok(Some(Command::Run(Text::copied(alloc, name)?, steps)))
+}
+
+// dump NAME
+fn dump_of(alloc: Global, words: &[String]) -> Result<Option<Command>, AllocError>
+    ensures { IfOk result (λ found. found ≡ spec.dump_of (lines.line_of [] (map string_bytes words.now))) }
+{
+    let Some(line) = line_of(alloc, &[], words)? else {
+        return Ok(None);
+    };
+    let Some(name) = one_name(line.files.as_slice()) else {
+        return Ok(None);
+    };
+    Ok(Some(Command::Dump(Text::copied(alloc, name)?)))
+}
+
+// Puts the file words behind the names, or answers that one of them names no file.
+fn add_names(alloc: Global, names: &mut Names, files: &[&str]) -> Result<bool, AllocError>
+    requires { length names.old + length files.now ≤ 256 }
+    ensures { IfOk result (λ fine. spec.AddsNames names.old names.new (map (λ file. file.now) files.now) fine) }
+{
+    match files {
+        [] => Ok(true),
+        [file, files @ ..] => {
+            if !is_name(file) {
+                return Ok(false);
+            }
+            names.push(Text::copied(alloc, file)?)?;
+            add_names(alloc, names, files)
         }
     }
 }
 
-fn name_of(alloc: Global, words: &[String]) -> Result<Option<Command>, AllocError>
-    ensures { IfOk result (λ found. found ≡ spec.name_of (map string_bytes words.now)) }
+fn names_of(alloc: Global, files: &[&str]) -> Result<Option<Names>, AllocError>
+    ensures { IfOk result (λ found. found ≡ spec.names_of (map (λ file. file.now) files.now)) }
 {
-    match words {
-        [] => Ok(None),
-        [name, words @ ..] => run_named(alloc, name.as_str(), steps_of(words)),
+    if files.is_empty() || files.len() > 256 {
+        return Ok(None);
+    }
+    let mut names = Names::new(alloc);
+    if add_names(alloc, &mut names, files)? {
+        Ok(Some(names))
+    } else {
+        Ok(None)
+    }
+}
+
+fn output_of<'a>(given: &[Given<'a>]) -> Option<&'a str>
+    ensures { option_map (λ name. name.now) result ≡ spec.output_of (map lines.given_shown given.now) }
+{
+    match value_or("a.lrpx", "out", given) {
+        None => None,
+        Some(name) => { if is_name(name) { Some(name) } else { None } }
+    }
+}
+
+// link NAME.. --out NAME
+fn link_of(alloc: Global, words: &[String]) -> Result<Option<Command>, AllocError>
+    ensures { IfOk result (λ found. found ≡ spec.link_of (lines.line_of (codes "out" ∷ []) (map string_bytes words.now))) }
+{
+    let Some(line) = line_of(alloc, &["out"], words)? else {
+        return Ok(None);
+    };
+    let Some(names) = names_of(alloc, line.files.as_slice())? else {
+        return Ok(None);
+    };
+    let Some(output) = output_of(line.given.as_slice()) else {
+        return Ok(None);
+    };
+    Ok(Some(Command::Link(names, Text::copied(alloc, output)?)))
+}
+
+fn command_named(
+    alloc: Global,
+    command: &str,
+    words: &[String],
+) -> Result<Option<Command>, AllocError>
+    ensures { IfOk result (λ found. found ≡ spec.command_named command.now (map string_bytes words.now)) }
+{
+    if command == "run" {
+        run_of(alloc, words)
+    } else if command == "dump" {
+        dump_of(alloc, words)
+    } else if command == "link" {
+        link_of(alloc, words)
+    } else {
+        Ok(None)
     }
 }
 
@@ -190,8 +271,10 @@ pub(crate) fn command_of(alloc: Global, words: &[String]) -> Result<Option<Comma
     ensures { IfOk result (λ found. found ≡ spec.command_of (map string_bytes words.now)) }
 {
     if is_build(words) {
-        Ok(Some(Command::Build))
-    } else {
-        run_of(alloc, words)
+        return Ok(Some(Command::Build));
+    }
+    match words {
+        [] => Ok(None),
+        [command, words @ ..] => command_named(alloc, command.as_str(), words),
     }
 }
