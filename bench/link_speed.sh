@@ -12,6 +12,6 @@ for crate in lar_bytes object_format symbol_link; do
     done
 done
 cp "$here/bench/link_speed.main" "$copy/crates/link_speed/src/main.rt"
-printf 'lar_bytes:\nobject_format: lar_bytes thiserror\nsymbol_link: lar_bytes object_format thiserror\nlink_speed: lar_bytes object_format symbol_link\n' > "$copy/crates.txt"
+{ grep -E '^(lar_bytes|object_format|symbol_link):' "$here/crates.txt"; echo 'link_speed: lar_bytes object_format symbol_link'; } > "$copy/crates.txt"
 cd "$copy/crates/link_speed"
 rt "${1:-run}"

@@ -12,7 +12,7 @@ for crate in lar_bytes object_format; do
     if [ -d "$here/crates/$crate/proofs" ]; then cp -r "$here/crates/$crate/proofs" "$copy/crates/$crate/"; fi
 done
 cp "$here/bench/object_speed.main" "$copy/crates/object_speed/src/main.rt"
-printf 'lar_bytes:\nobject_format: lar_bytes thiserror\nobject_speed: lar_bytes object_format\n' > "$copy/crates.txt"
+{ grep -E '^(lar_bytes|object_format):' "$here/crates.txt"; echo 'object_speed: lar_bytes object_format'; } > "$copy/crates.txt"
 cd "$copy/crates/object_speed"
 rt "${1:-run}"
 [ "${1:-run}" = run ] || exit 0

@@ -10,6 +10,6 @@ for crate in lar_bytes lar_tree lar_syntax; do
     rm -rf "$copy/crates/$crate/out" "$copy/crates/$crate/must-fail"
 done
 cp "$here/bench/token_speed.main" "$copy/crates/token_speed/src/main.rt"
-printf 'lar_bytes:\nlar_tree: lar_bytes\nlar_syntax: lar_bytes lar_tree\ntoken_speed: lar_tree lar_syntax\n' > "$copy/crates.txt"
+{ grep -E '^(lar_bytes|lar_tree|lar_syntax):' "$here/crates.txt"; echo 'token_speed: lar_tree lar_syntax'; } > "$copy/crates.txt"
 cd "$copy/crates/token_speed"
 rt "${1:-run}"
