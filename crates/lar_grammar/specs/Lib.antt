@@ -1,2 +1,4 @@
+pub mod Looks
 pub mod Machine
 pub mod Moves
+pub mod Symbols
