@@ -1,1 +1,13 @@
+pub mod Heights
+pub mod Inhabited
+pub mod LeftOut
 pub mod Meaning
+pub mod Members
+pub mod Parts
+pub mod Taking
+pub mod Takes
+pub mod TakesExprs
+pub mod TakesItems
+pub mod TakesLists
+pub mod TakesStmts
+pub mod TakesTypes
