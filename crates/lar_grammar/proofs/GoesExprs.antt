@@ -1,5 +1,5 @@
 -- The machine goes through the tokens of each expression.
-use Rattle.std.proofs.Common.{◌≡◌, ℕ, ◌+◌, ◌-◌, ◌≤◌, List, [], ◌∷◌, ◌++◌, Option, Some, None, false, refl, sym, ap, ◌∙◌, subst, arith}
+use Rattle.std.proofs.Common.{◌≡◌, ℕ, ◌+◌, ◌-◌, ◌≤◌, List, [], ◌∷◌, ◌++◌, Option, Some, None, Bool, true, false, refl, sym, ap, ◌∙◌, subst, arith}
 use Rattle.lar_tree.specs.declared.file.Span.{Span}
 use Rattle.lar_tree.specs.declared.sign.Sign.{Sign}
 use Rattle.lar_tree.specs.declared.sign.Sign.TheVariants as sign
@@ -16,16 +16,16 @@ use Rattle.lar_tree.specs.declared.expr.Unary.{Unary}
 use Rattle.lar_tree.specs.declared.expr.Unary.TheVariants as unary
 use Rattle.lar_tree.specs.declared.expr.Binary.{Binary}
 use Rattle.lar_tree.specs.Spelling.{sign_token, word_token, number_token, name_token, flat_segments, flat_path}
-use Rattle.lar_tree.specs.Types.{angle_args}
-use Rattle.lar_tree.specs.Exprs.{PlainTurbofish, PlainExpr, number, truth, untruth, paren, new_struct, path, call, field, unary_of, binary_of, PlainParts, no_parts, parts, MoreParts, last_part, next_part, PlainInits, no_inits, inits, MoreInits, last_init, next_init, binary_sign, selector_token, height_of, left_height, height, Grouped, GroupedParts, GroupedMoreParts, GroupedInits, GroupedMoreInits}
-use Rattle.lar_tree.specs.Marks.{Marked, un, unmarked, over, marked_option, marked_turbofish, marked_expr, marked_parts, marked_more_parts, marked_inits, marked_more_inits, outermost}
+use Rattle.lar_tree.specs.Types.{PlainArgs, angle_args}
+use Rattle.lar_tree.specs.Exprs.{PlainTurbofish, PlainExpr, number, truth, untruth, paren, new_struct, path, call, field, unary_of, binary_of, PlainParts, no_parts, parts, MoreParts, last_part, next_part, PlainInits, no_inits, inits, MoreInits, last_init, next_init, unary_sign, binary_sign, selector_token, height_of, left_height, height, Grouped, GroupedParts, GroupedMoreParts, GroupedInits, GroupedMoreInits}
+use Rattle.lar_tree.specs.Marks.{Marked, un, unmarked, over, marked_option, marked_args, marked_turbofish, marked_expr, marked_parts, marked_more_parts, marked_inits, marked_more_inits, outermost}
 use Rattle.lar_tree.proofs.MarkedTokens.{tokens_of}
-use Rattle.lar_grammar.specs.Looks.{Look, look, is_sign, is_word}
-use Rattle.lar_grammar.specs.Symbols.{expr_member, init_member, arg_member, Symbol, one_sign, one_name, member, more, listed, level, operand, tails, post, selector, path_rest, sep_rest, new_rest, new_sep_rest, outer_expr, leave, Stack, skip, fail, then_}
-use Rattle.lar_grammar.specs.Moves.{expand, in_parens, in_braces, operand_at, next_low, whole_at}
-use Rattle.lar_grammar.proofs.Going.{inside, outside, Goes, Any, seq, token, token_then, part, over_more, drop_end, opens, alike, when_also, outermost-goes, HasFirst, has_first-append, stays, tokens_on}
-use Rattle.lar_grammar.proofs.GoingTokens.{at_sign, not_sign, not_word, sign_then, name_then}
-use Rattle.lar_grammar.proofs.GoesLists.{operand_not_skip, climb_not_skip, IsAt, Ends, Further, no_further, one_further, listed_none, listed_some, closed}
+use Rattle.lar_grammar.specs.Looks.{Look, look, is_sign, is_name}
+use Rattle.lar_grammar.specs.Symbols.{Listed, expr_member, init_member, arg_member, Symbol, one_sign, one_word, one_name, member, more, listed, level, operand, tails, post, selector, path_rest, sep_rest, new_rest, new_sep_rest, outer_expr, leave, Stack, Move, skip, fail, take, then_, entering, when}
+use Rattle.lar_grammar.specs.Moves.{expand, in_parens, in_braces, operand_at, climb, next_low, path_on, whole_at}
+use Rattle.lar_grammar.proofs.Going.{Where, inside, outside, Goes, Any, seq, token, token_then, part, over_more, left_out, drop_end, opens, alike, when_also, outermost-goes, HasFirst, has_first-append, stays, tokens_on}
+use Rattle.lar_grammar.proofs.GoingTokens.{other_sign, at_sign, at_no, not_sign, sign_then, sign_goes, name_then}
+use Rattle.lar_grammar.proofs.GoesLists.{operand_not_skip, climb_not_skip, IsAt, Ends, ends-are, Further, no_further, one_further, listed_none, listed_some, closed}
 use Rattle.lar_grammar.proofs.GoesTypes.{goes-args}
 use Rattle.lar_grammar.proofs.GoesSigns.{Quiet, NotCall, quieter, quiet-not_call, not_call-at, quiet-at, ends-quiet, skip_post, skip_path, skip_tails, quiet-operator, take_tails, high_enough, left_not_above, height_of-bound, low_of, low-fits}
 
@@ -69,9 +69,6 @@ begins-expr (binary_of l op at r) rest z = begins-on (marked_expr l) _ rest (beg
 pub begins-no_sign : (s : Sign) (l : Look) → operand_at (Some (kind.Sign s)) ≡ fail → BeginsExpr l → is_sign s l ≡ false
 begins-no_sign s l e n = not_sign s l (λ k. n (ap operand_at k ∙ e))
 
-pub begins-no_word : (w : Keyword) (l : Look) → operand_at (Some (kind.Word w)) ≡ fail → BeginsExpr l → is_word w l ≡ false
-begins-no_word w l e n = not_word w l (λ k. n (ap operand_at k ∙ e))
-
 -- ---- what holds of each expression
 
 pub record Claims (e : PlainExpr) : Type 0 where
@@ -105,7 +102,7 @@ goes-new_path (s ∷ ss) = token_then (sign_token sign.PathSep s.sep) (new_sep_r
 post-path : (p : Path) → Goes inside NotCall (unmarked (flat_path p)) (operand ∷ []) (post ∷ [])
 post-path p =
     token_then (name_token p.first) (path_rest ∷ post ∷ []) refl
-    (drop_end path_rest (λ r. refl) (λ l q. tt) skip_path (over_more (goes-path p.more) (post ∷ [])))
+      (drop_end path_rest (λ r. refl) (λ l q. tt) skip_path (over_more (goes-path p.more) (post ∷ [])))
 
 -- a call's arguments, from behind its `(` on
 goes-in_parens : {P : Look → Type 0} (n : ℕ) (ps : PlainParts) (to : Span) → Goes inside (IsAt sign.CloseParen) (marked_parts n ps) (listed expr_member n sign.CloseParen ∷ []) [] → Goes inside P (marked_parts n ps ++ un (sign_token sign.CloseParen to) ∷ []) (in_parens expr_member n) []
@@ -116,8 +113,8 @@ goes-call : (generics : Option PlainTurbofish) (from to : Span) (ps : PlainParts
 goes-call None from to ps g = token_then (sign_token sign.OpenParen from) (in_parens expr_member 15) refl (goes-in_parens 15 ps to g)
 goes-call (Some (sep, angle_args less a others greater)) from to ps g =
     token_then (sign_token sign.PathSep sep) (sep_rest ∷ []) refl
-    (token_then (sign_token sign.Less less) (member arg_member ∷ more arg_member 15 ∷ one_sign sign.Greater ∷ one_sign sign.OpenParen ∷ in_parens expr_member 15) refl
-    (part {P = Any} (one_sign sign.OpenParen ∷ in_parens expr_member 15) (goes-args a others greater) (sign_then sign.OpenParen from (goes-in_parens 15 ps to g)) (λ rest q. tt)))
+      (token_then (sign_token sign.Less less) (member arg_member ∷ more arg_member 15 ∷ one_sign sign.Greater ∷ one_sign sign.OpenParen ∷ in_parens expr_member 15) refl
+        (part {P = Any} (one_sign sign.OpenParen ∷ in_parens expr_member 15) (goes-args a others greater) (sign_then sign.OpenParen from (goes-in_parens 15 ps to g)) (λ rest q. tt)))
 
 post-call : (p : Path) (generics : Option PlainTurbofish) (from to : Span) (ps : PlainParts) → Goes inside (IsAt sign.CloseParen) (marked_parts 15 ps) (listed expr_member 15 sign.CloseParen ∷ []) [] → Goes inside NotCall (marked_expr (call p generics from ps to)) (operand ∷ []) (post ∷ [])
 post-call p generics from to ps g =
@@ -131,13 +128,13 @@ goes-new : (generics : Option PlainTurbofish) (from to : Span) (is : PlainInits)
 goes-new None from to is g = token_then (sign_token sign.OpenBrace from) (in_braces init_member 63) refl (closed init_member 63 sign.CloseBrace (marked_inits is) to g)
 goes-new (Some (sep, angle_args less a others greater)) from to is g =
     token_then (sign_token sign.PathSep sep) (new_sep_rest ∷ []) refl
-    (token_then (sign_token sign.Less less) (member arg_member ∷ more arg_member 15 ∷ one_sign sign.Greater ∷ one_sign sign.OpenBrace ∷ in_braces init_member 63) refl
-    (part {P = Any} (one_sign sign.OpenBrace ∷ in_braces init_member 63) (goes-args a others greater) (sign_then sign.OpenBrace from (closed init_member 63 sign.CloseBrace (marked_inits is) to g)) (λ rest q. tt)))
+      (token_then (sign_token sign.Less less) (member arg_member ∷ more arg_member 15 ∷ one_sign sign.Greater ∷ one_sign sign.OpenBrace ∷ in_braces init_member 63) refl
+        (part {P = Any} (one_sign sign.OpenBrace ∷ in_braces init_member 63) (goes-args a others greater) (sign_then sign.OpenBrace from (closed init_member 63 sign.CloseBrace (marked_inits is) to g)) (λ rest q. tt)))
 
 post-new : (at : Span) (p : Path) (generics : Option PlainTurbofish) (from to : Span) (is : PlainInits) → Goes inside (IsAt sign.CloseBrace) (marked_inits is) (listed init_member 63 sign.CloseBrace ∷ []) [] → Goes inside NotCall (marked_expr (new_struct at p generics from is to)) (operand ∷ []) (post ∷ [])
 post-new at p generics from to is g =
     token_then (word_token keyword.New at) (one_name ∷ new_rest ∷ post ∷ []) refl
-    (name_then p.first (over_more (seq (goes-new_path p.more) (goes-new generics from to is g) (λ rest q. tt)) (post ∷ [])))
+      (name_then p.first (over_more (seq (goes-new_path p.more) (goes-new generics from to is g) (λ rest q. tt)) (post ∷ [])))
 
 goes-selector : (s : Selector) → Goes inside NotCall (un (selector_token s) ∷ []) (selector ∷ []) []
 goes-selector (selects.Name n) = token (name_token n) refl
@@ -155,13 +152,13 @@ whole-unary unary.Not at e g = token_then (sign_token sign.Not at) (operand ∷ 
 
 -- of an expression of height at most 1
 claims-operand : (e : PlainExpr) → low_of e ≡ 2 → height e ≤ 1 → (height e ≤ 0 → Goes inside NotCall (marked_expr e) (operand ∷ []) (post ∷ [])) → Goes inside (Quiet 0) (marked_expr e) (operand ∷ []) [] → Claims e
-claims-operand e low small posted g =
+claims-operand e low small post_ g =
     let none : height e - 1 ≡ 0 = omega arith in
     record {
-      posts = posted;
+      posts = post_;
       whole = λ a. g;
       spine = λ h a b. subst (λ k. Goes inside (Quiet k) (marked_expr e) (level h ∷ []) (tails (low_of e) h ∷ [])) (sym none)
-          (subst (λ k. Goes inside (Quiet 0) (marked_expr e) (level h ∷ []) (tails k h ∷ [])) (sym low) (spine-operand (marked_expr e) h g));
+        (subst (λ k. Goes inside (Quiet 0) (marked_expr e) (level h ∷ []) (tails k h ∷ [])) (sym low) (spine-operand (marked_expr e) h g));
     }
 
 -- of one of height 0
@@ -171,9 +168,9 @@ claims-post e low none g = claims-operand e low (omega arith) (λ a. g) (whole-o
 spine-binary : (l : PlainExpr) (op : Binary) (at : Span) (r : PlainExpr) → Claims l → Claims r → height l ≤ left_height op → height r + 1 ≤ height_of op → (h : ℕ) → 1 ≤ h → height_of op ≤ h → Goes inside (Quiet (height_of op - 1)) (marked_expr (binary_of l op at r)) (level h ∷ []) (tails (next_low op) h ∷ [])
 spine-binary l op at r c d left_low right_low h a b =
     seq (c.spine h a (omega (arith, left_not_above op)))
-    (token_then (sign_token (binary_sign op) at) (level (height_of op - 1) ∷ tails (next_low op) h ∷ []) (take_tails (low_of l) h op (low-fits l op left_low) b)
-    (over_more (full r d (height_of op - 1) (omega (arith, high_enough op)) (omega arith)) (tails (next_low op) h ∷ [])))
-    (λ rest q. quiet-operator op (height l - 1) (omega (arith, left_not_above op, high_enough op)))
+      (token_then (sign_token (binary_sign op) at) (level (height_of op - 1) ∷ tails (next_low op) h ∷ []) (take_tails (low_of l) h op (low-fits l op left_low) b)
+        (over_more (full r d (height_of op - 1) (omega (arith, high_enough op)) (omega arith)) (tails (next_low op) h ∷ [])))
+      (λ rest q. quiet-operator op (height l - 1) (omega (arith, left_not_above op, high_enough op)))
 
 claims-binary : (l : PlainExpr) (op : Binary) (at : Span) (r : PlainExpr) → Claims l → Claims r → height l ≤ left_height op → height r + 1 ≤ height_of op → Claims (binary_of l op at r)
 claims-binary l op at r c d left_low right_low = record {
@@ -200,12 +197,12 @@ height-bound (new_struct at p generics from is to) = omega arith
 height-bound (path p) = omega arith
 height-bound (call p generics from ps to) = omega arith
 height-bound (field inner dot s) = omega arith
-height-bound (unary_of before at inner) = omega arith
+height-bound (unary_of sign_ at inner) = omega arith
 
 goes-part : (e : PlainExpr) → Claims e → Goes inside (Ends sign.CloseParen) (marked_expr e) (member expr_member ∷ []) []
 goes-part e c =
     when_also (λ l z. ends-quiet sign.CloseParen l quiet-close z)
-    (alike (member expr_member) (level 6) (λ r. refl) (λ rest p. refl) (full e c 6 (omega arith) (height-bound e)))
+      (alike (member expr_member) (level 6) (λ r. refl) (λ rest p. refl) (full e c 6 (omega arith) (height-bound e)))
 
 some_parts : (n : ℕ) (e : PlainExpr) (others : List Marked) → Claims e → Further inside expr_member sign.CloseParen n others → Goes inside (IsAt sign.CloseParen) (marked_expr e ++ others) (listed expr_member n sign.CloseParen ∷ []) []
 some_parts n e others c f =
@@ -217,7 +214,7 @@ one_more_part n comma e others c f = one_further expr_member sign.CloseParen n c
 goes-init : (n : Name) (colon : Span) (e : PlainExpr) → Claims e → Goes inside (Ends sign.CloseBrace) (un (name_token n) ∷ un (sign_token sign.Colon colon) ∷ marked_expr e) (member init_member ∷ []) []
 goes-init n colon e c =
     when_also (λ l z. ends-quiet sign.CloseBrace l quiet-brace z)
-    (token_then (name_token n) (one_sign sign.Colon ∷ level 6 ∷ []) refl (sign_then sign.Colon colon (full e c 6 (omega arith) (height-bound e))))
+      (token_then (name_token n) (one_sign sign.Colon ∷ level 6 ∷ []) refl (sign_then sign.Colon colon (full e c 6 (omega arith) (height-bound e))))
 
 some_inits : (n : Name) (colon : Span) (e : PlainExpr) (others : List Marked) → Claims e → Further inside init_member sign.CloseBrace 63 others → Goes inside (IsAt sign.CloseBrace) (un (name_token n) ∷ un (sign_token sign.Colon colon) ∷ (marked_expr e ++ others)) (listed init_member 63 sign.CloseBrace ∷ []) []
 some_inits n colon e others c f =

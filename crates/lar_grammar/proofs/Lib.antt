@@ -1,6 +1,11 @@
+pub mod Exact
+pub mod Faults
 pub mod GoesExprs
+pub mod GoesItems
 pub mod GoesLists
 pub mod GoesSigns
+pub mod GoesSteps
+pub mod GoesStmts
 pub mod GoesTypes
 pub mod Going
 pub mod GoingTokens
@@ -15,7 +20,9 @@ pub mod OneOperand
 pub mod OnePieces
 pub mod OneStmt
 pub mod OneType
+pub mod Openings
 pub mod Parts
+pub mod Steps
 pub mod Takes
 pub mod TakesExprs
 pub mod TakesItems

@@ -196,7 +196,7 @@ mutual
       let body = marked_block n f.body in
       tokens-append (marked_head f) body ∙ ap (λ ts. ts ++ tokens_of body) (tokens-head f) ∙ ap (λ ts. flat_head f ++ ts) (tokens-block n f.body)
 
-  tokens-items : (n : ℕ) (is : PlainItems) → tokens_of (marked_items n is) ≡ flat_items is
+  pub tokens-items : (n : ℕ) (is : PlainItems) → tokens_of (marked_items n is) ≡ flat_items is
   tokens-items n no_items = refl
   tokens-items n (items i is) = simp (tokens-append, tokens-item n i, tokens-items n is)
 
