@@ -1,5 +1,5 @@
 -- One member further in a loop over a list: what is spelled so far, and what is left to be spelled.
-use Rattle.std.proofs.Common.{◌≡◌, ℕ, ◌+◌, ◌<◌, List, [], ◌∷◌, ◌++◌, length, drop, get_or, sym, ap, ◌∙◌}
+use Rattle.std.proofs.Common.{◌≡◌, ℕ, ◌+◌, ◌<◌, List, ◌∷◌, ◌++◌, length, drop, get_or, sym, ap, ◌∙◌}
 use Rattle.std.proofs.lemmas.List.{append_assoc, drop_more}
 use Rattle.lar_tree.specs.declared.token.Kind.{Kind}
 use Rattle.lar_tree.specs.declared.token.Token.{Token}

@@ -1,5 +1,5 @@
 -- Small trees, computed: what they spell, how they group, and which token passes a count.
-use Rattle.std.proofs.Common.{◌≡◌, ℕ, ◌+◌, ◌≤◌, pos, List, [], ◌∷◌, ◌++◌, map, Option, Some, None, Bool, true, false, codes, refl, arith}
+use Rattle.std.proofs.Common.{◌≡◌, ℕ, ◌+◌, ◌≤◌, pos, List, [], ◌∷◌, ◌++◌, map, None, Bool, true, false, codes, refl, arith}
 use Rattle.std.proofs.Math.ListN.{replicate}
 use Rattle.lar_tree.specs.declared.file.Span.{Span}
 use Rattle.lar_tree.specs.declared.keyword.Keyword.TheVariants as keyword
@@ -7,15 +7,14 @@ use Rattle.lar_tree.specs.declared.sign.Sign.TheVariants as sign
 use Rattle.lar_tree.specs.declared.token.Token.{Token}
 use Rattle.lar_tree.specs.declared.name.Name.{Name}
 use Rattle.lar_tree.specs.declared.commas.Commas.{Commas}
-use Rattle.lar_tree.specs.declared.commas.Member.{Member}
 use Rattle.lar_tree.specs.declared.expr.Unary.TheVariants as unary
 use Rattle.lar_tree.specs.declared.expr.Binary.TheVariants as binary
 use Rattle.lar_tree.specs.Spelling.{sign_token, word_token, number_token, name_token}
-use Rattle.lar_tree.specs.Types.{PlainTy, int_type}
-use Rattle.lar_tree.specs.Exprs.{PlainExpr, number, path, unary_of, binary_of, flat_expr, Grouped}
-use Rattle.lar_tree.specs.Stmts.{PlainStmts, print_stmt, PlainBlock, block, no_stmts, stmts}
-use Rattle.lar_tree.specs.Items.{PlainField, PlainFn, PlainItems, fn_item, no_items, items}
-use Rattle.lar_tree.specs.Marks.{Marked, over, cut, marked_field, marked_commas, marked_block}
+use Rattle.lar_tree.specs.Types.{int_type}
+use Rattle.lar_tree.specs.Exprs.{PlainExpr, number, path, unary_of, binary_of, Grouped}
+use Rattle.lar_tree.specs.Stmts.{PlainStmts, print_stmt, block, no_stmts, stmts}
+use Rattle.lar_tree.specs.Items.{PlainField, PlainFn, fn_item, no_items, items}
+use Rattle.lar_tree.specs.Marks.{Marked, cut, marked_field, marked_commas, marked_block}
 use Rattle.lar_tree.specs.Programs.{Spells}
 
 -- the nth column of the first line

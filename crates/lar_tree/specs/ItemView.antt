@@ -1,5 +1,5 @@
 -- The plain item that an item of the code stands for.
-use Rattle.std.specs.Prelude.{List, [], ◌∷◌, map, Option, option_map}
+use Rattle.std.specs.Prelude.{List, [], ◌∷◌, map, option_map}
 use Rattle.lar_tree.specs.declared.item.Field.{Field}
 use Rattle.lar_tree.specs.declared.item.Fn.{Fn}
 use Rattle.lar_tree.specs.declared.item.Output.{Output}

@@ -1,6 +1,5 @@
 -- The plain type that a type of the code stands for.
-use Rattle.std.specs.Prelude.{List, [], ◌∷◌, map, Option, Some, None}
-use Rattle.lar_tree.specs.declared.file.Span.{Span}
+use Rattle.std.specs.Prelude.{List, [], ◌∷◌, map, Some, None}
 use Rattle.lar_tree.specs.declared.commas.Member.{Member}
 use Rattle.lar_tree.specs.declared.ty.Ty.{Ty}
 use Rattle.lar_tree.specs.declared.ty.TupleTy.{TupleTy}

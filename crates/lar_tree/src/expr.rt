@@ -1,4 +1,5 @@
 ghost use Rattle.std.specs.Prelude.{◌≡◌, IfOk, option_map};
+ghost use Rattle.lar_tree.specs.TypeView.{args_view};
 ghost use Rattle.lar_tree.specs.Exprs as plain;
 ghost use Rattle.lar_tree.specs.ExprView as view;
 
@@ -89,7 +90,7 @@ pub enum Selector {
 #[derive(Drop)]
 pub struct Turbofish {
     pub sep: Span,
-    pub args: GenericArgs,
+    pub args: Boxed<GenericArgs>,
 }
 
 #[cycle(expr)]
@@ -137,6 +138,17 @@ pub struct Call {
     pub open: Span,
     pub args: Option<Commas<Expr>>,
     pub close: Span,
+}
+
+impl Turbofish {
+    pub fn new(alloc: Global, sep: Span, args: GenericArgs) -> Result<Turbofish, AllocError>
+        ensures { IfOk result (λ t. view.turbofish_view t ≡ record { 0 = sep; 1 = args_view args }) }
+    {
+        Ok(Turbofish {
+            sep,
+            args: Boxed::new(alloc, args)?,
+        })
+    }
 }
 
 impl Expr {

@@ -129,10 +129,8 @@ fn generic_args(alloc: Global) -> Result<GenericArgs, AllocError> {
 }
 
 fn turbofish(alloc: Global) -> Result<Option<Turbofish>, AllocError> {
-    Ok(Some(Turbofish {
-        sep: AT,
-        args: generic_args(alloc)?,
-    }))
+    let args = generic_args(alloc)?;
+    Ok(Some(Turbofish::new(alloc, AT, args)?))
 }
 
 #[test]

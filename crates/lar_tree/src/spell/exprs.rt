@@ -30,7 +30,7 @@ impl Speller {
             None => Ok(()),
             Some(generics) => {
                 self.sign(Sign::PathSep)?;
-                self.generic_args(&generics.args)
+                self.generic_args(generics.args.get())
             }
         }
     }

@@ -1,4 +1,4 @@
-use Rattle.std.proofs.Common.{◌+◌, ◌<◌, ◌∷◌, [], length, refl, arith, map}
+use Rattle.std.proofs.Common.{◌∷◌, refl, arith, map}
 use Rattle.lar_tree.specs.declared.commas.Member.{Member}
 use Rattle.lar_tree.specs.declared.expr.Expr.{Expr}
 use Rattle.lar_tree.specs.declared.expr.Init.{Init}

@@ -1,7 +1,7 @@
 use Rattle.std.proofs.Common.{◌≡◌, ◌++◌, drop, map}
 use Rattle.lar_tree.specs.Commas.{member_map}
 use Rattle.lar_tree.specs.ExprView.{expr_view, init_view, more_parts, more_inits}
-use Rattle.lar_tree.specs.Exprs.{flat_expr, flat_more_parts, flat_init, flat_more_inits}
+use Rattle.lar_tree.specs.Exprs.{flat_more_parts, flat_more_inits}
 use Rattle.lar_tree.specs.Spelling.{kinds}
 use Rattle.lar_tree.proofs.spell.Speller.+expr.Given as goal
 

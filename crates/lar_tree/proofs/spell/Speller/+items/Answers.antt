@@ -1,4 +1,4 @@
-use Rattle.std.proofs.Common.{◌+◌, ◌<◌, ◌∷◌, [], length, refl, arith}
+use Rattle.std.proofs.Common.{refl, arith}
 use Rattle.lar_tree.specs.declared.item.Item.{Item}
 use Rattle.lar_tree.specs.ItemView.{item_view, items_view}
 use Rattle.lar_tree.specs.Items.{flat_item, flat_items}

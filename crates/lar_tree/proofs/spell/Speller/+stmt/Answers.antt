@@ -1,4 +1,4 @@
-use Rattle.std.proofs.Common.{◌+◌, ◌<◌, ◌∷◌, [], length, refl, arith}
+use Rattle.std.proofs.Common.{refl, arith}
 use Rattle.lar_tree.specs.declared.stmt.Stmt.{Stmt}
 use Rattle.lar_tree.specs.StmtView.{stmt_view, stmts_view}
 use Rattle.lar_tree.specs.Stmts.{flat_stmt, flat_stmts}

@@ -1,6 +1,6 @@
 use Rattle.std.proofs.Common.{◌≡◌, ◌++◌, drop}
-use Rattle.lar_tree.specs.TypeView.{type_view, arg_view, more_types_view, more_args_view}
-use Rattle.lar_tree.specs.Types.{flat_type, flat_types, flat_arg, flat_more_args}
+use Rattle.lar_tree.specs.TypeView.{more_types_view, more_args_view}
+use Rattle.lar_tree.specs.Types.{flat_types, flat_more_args}
 use Rattle.lar_tree.specs.Spelling.{kinds}
 use Rattle.lar_tree.proofs.spell.Speller.+types.Given as goal
 

@@ -1,4 +1,4 @@
-use Rattle.std.proofs.Common.{◌+◌, ◌<◌, ◌∷◌, [], length, refl, arith, map}
+use Rattle.std.proofs.Common.{◌∷◌, refl, arith, map}
 use Rattle.lar_tree.specs.declared.commas.Member.{Member}
 use Rattle.lar_tree.specs.declared.item.Field.{Field}
 use Rattle.lar_tree.specs.Commas.{member_map, flat_members}

@@ -1,4 +1,4 @@
-use Rattle.std.proofs.Common.{◌+◌, ◌<◌, ◌∷◌, [], length, refl, arith}
+use Rattle.std.proofs.Common.{◌∷◌, refl, arith}
 use Rattle.lar_tree.specs.declared.commas.Member.{Member}
 use Rattle.lar_tree.specs.declared.name.Name.{Name}
 use Rattle.lar_tree.specs.Commas.{flat_members}

@@ -1,4 +1,4 @@
-use Rattle.std.proofs.Common.{◌+◌, ◌<◌, ◌∷◌, [], length, refl, arith}
+use Rattle.std.proofs.Common.{◌∷◌, [], refl, arith}
 use Rattle.lar_tree.specs.declared.name.Segment.{Segment}
 use Rattle.lar_tree.specs.declared.sign.Sign.TheVariants as sign
 use Rattle.lar_tree.specs.Spelling.{flat_segments, name_token, sign_token}
