@@ -1,5 +1,5 @@
 -- Where the machine stops: what it has gone through begins what the stack wants, and what comes later changes nothing of it.
-use Rattle.std.proofs.Common.{◌≡◌, ℕ, suc, ◌+◌, ◌≤◌, List, [], ◌∷◌, ◌++◌, length, Option, Some, None, Bool, true, false, if◌then◌else◌, refl, sym, ap, subst, arith, length-append}
+use Rattle.std.proofs.Common.{◌≡◌, ℕ, suc, ◌≤◌, List, [], ◌∷◌, ◌++◌, length, Option, Some, None, Bool, true, false, if◌then◌else◌, refl, sym, ap, subst, arith, length-append}
 use Rattle.lar_tree.specs.declared.token.Token.{Token}
 use Rattle.lar_grammar.specs.Symbols.{Symbol, Stack, Move, skip, fail, take, enter}
 use Rattle.lar_grammar.specs.Moves.{expand}

@@ -1,9 +1,8 @@
 -- The machine goes through the tokens of each expression.
-use Rattle.std.proofs.Common.{◌≡◌, ℕ, ◌+◌, ◌-◌, ◌≤◌, List, [], ◌∷◌, ◌++◌, Option, Some, None, Bool, true, false, refl, sym, ap, ◌∙◌, subst, arith}
+use Rattle.std.proofs.Common.{◌≡◌, ℕ, ◌+◌, ◌-◌, ◌≤◌, List, [], ◌∷◌, ◌++◌, Option, Some, None, false, refl, sym, ap, ◌∙◌, subst, arith}
 use Rattle.lar_tree.specs.declared.file.Span.{Span}
 use Rattle.lar_tree.specs.declared.sign.Sign.{Sign}
 use Rattle.lar_tree.specs.declared.sign.Sign.TheVariants as sign
-use Rattle.lar_tree.specs.declared.keyword.Keyword.{Keyword}
 use Rattle.lar_tree.specs.declared.keyword.Keyword.TheVariants as keyword
 use Rattle.lar_tree.specs.declared.token.Kind.TheVariants as kind
 use Rattle.lar_tree.specs.declared.token.Token.{Token}
@@ -16,16 +15,16 @@ use Rattle.lar_tree.specs.declared.expr.Unary.{Unary}
 use Rattle.lar_tree.specs.declared.expr.Unary.TheVariants as unary
 use Rattle.lar_tree.specs.declared.expr.Binary.{Binary}
 use Rattle.lar_tree.specs.Spelling.{sign_token, word_token, number_token, name_token, flat_segments, flat_path}
-use Rattle.lar_tree.specs.Types.{PlainArgs, angle_args}
-use Rattle.lar_tree.specs.Exprs.{PlainTurbofish, PlainExpr, number, truth, untruth, paren, new_struct, path, call, field, unary_of, binary_of, PlainParts, no_parts, parts, MoreParts, last_part, next_part, PlainInits, no_inits, inits, MoreInits, last_init, next_init, unary_sign, binary_sign, selector_token, height_of, left_height, height, Grouped, GroupedParts, GroupedMoreParts, GroupedInits, GroupedMoreInits}
-use Rattle.lar_tree.specs.Marks.{Marked, un, unmarked, over, marked_option, marked_args, marked_turbofish, marked_expr, marked_parts, marked_more_parts, marked_inits, marked_more_inits, outermost}
+use Rattle.lar_tree.specs.Types.{angle_args}
+use Rattle.lar_tree.specs.Exprs.{PlainTurbofish, PlainExpr, number, truth, untruth, paren, new_struct, path, call, field, unary_of, binary_of, PlainParts, no_parts, parts, MoreParts, last_part, next_part, PlainInits, no_inits, inits, MoreInits, last_init, next_init, binary_sign, selector_token, height_of, left_height, height, Grouped, GroupedParts, GroupedMoreParts, GroupedInits, GroupedMoreInits}
+use Rattle.lar_tree.specs.Marks.{Marked, un, unmarked, over, marked_option, marked_turbofish, marked_expr, marked_parts, marked_more_parts, marked_inits, marked_more_inits, outermost}
 use Rattle.lar_tree.proofs.MarkedTokens.{tokens_of}
-use Rattle.lar_grammar.specs.Looks.{Look, look, is_sign, is_name}
-use Rattle.lar_grammar.specs.Symbols.{Listed, expr_member, init_member, arg_member, Symbol, one_sign, one_word, one_name, member, more, listed, level, operand, tails, post, selector, path_rest, sep_rest, new_rest, new_sep_rest, outer_expr, leave, Stack, Move, skip, fail, take, then_, entering, when}
-use Rattle.lar_grammar.specs.Moves.{expand, in_parens, in_braces, operand_at, climb, next_low, path_on, whole_at}
-use Rattle.lar_grammar.proofs.Going.{Where, inside, outside, Goes, Any, seq, token, token_then, part, over_more, left_out, drop_end, opens, alike, when_also, outermost-goes, HasFirst, has_first-append, stays, tokens_on}
-use Rattle.lar_grammar.proofs.GoingTokens.{other_sign, at_sign, at_no, not_sign, sign_then, sign_goes, name_then}
-use Rattle.lar_grammar.proofs.GoesLists.{operand_not_skip, climb_not_skip, IsAt, Ends, ends-are, Further, no_further, one_further, listed_none, listed_some, closed}
+use Rattle.lar_grammar.specs.Looks.{Look, look, is_sign}
+use Rattle.lar_grammar.specs.Symbols.{expr_member, init_member, arg_member, Symbol, one_sign, one_name, member, more, listed, level, operand, tails, post, selector, path_rest, sep_rest, new_rest, new_sep_rest, outer_expr, leave, Stack, skip, fail, then_}
+use Rattle.lar_grammar.specs.Moves.{expand, in_parens, in_braces, operand_at, next_low, whole_at}
+use Rattle.lar_grammar.proofs.Going.{inside, outside, Goes, Any, seq, token, token_then, part, over_more, drop_end, opens, alike, when_also, outermost-goes, HasFirst, has_first-append, stays, tokens_on}
+use Rattle.lar_grammar.proofs.GoingTokens.{at_sign, not_sign, sign_then, name_then}
+use Rattle.lar_grammar.proofs.GoesLists.{operand_not_skip, climb_not_skip, IsAt, Ends, Further, no_further, one_further, listed_none, listed_some, closed}
 use Rattle.lar_grammar.proofs.GoesTypes.{goes-args}
 use Rattle.lar_grammar.proofs.GoesSigns.{Quiet, NotCall, quieter, quiet-not_call, not_call-at, quiet-at, ends-quiet, skip_post, skip_path, skip_tails, quiet-operator, take_tails, high_enough, left_not_above, height_of-bound, low_of, low-fits}
 

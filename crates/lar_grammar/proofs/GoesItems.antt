@@ -22,7 +22,7 @@ use Rattle.lar_tree.specs.Stmts.{GroupedBlock}
 use Rattle.lar_tree.specs.Marks.{Marked, un, unmarked, over, marked_option, marked_members, marked_commas, marked_name, marked_generic, marked_angled, marked_field, marked_output, marked_struct, marked_item, marked_items, marked_program}
 use Rattle.lar_tree.proofs.MarkedTokens.{tokens_of, tokens-items}
 use Rattle.lar_grammar.specs.Looks.{Look, is_sign}
-use Rattle.lar_grammar.specs.Symbols.{Listed, field_member, generic_member, name_member, Symbol, one_sign, signed_number, attribute_word, member, more, listed, angle, one_block, body, module_items, attributed, output, program, Stack, skip, fail, take, then_}
+use Rattle.lar_grammar.specs.Symbols.{Listed, field_member, generic_member, name_member, Symbol, one_sign, signed_number, attribute_word, member, listed, angle, one_block, body, module_items, attributed, output, program, Stack, skip, fail, take, then_}
 use Rattle.lar_grammar.specs.Moves.{expand, struct_rest, const_rest, fn_rest, attribute_rest, item_at}
 use Rattle.lar_grammar.specs.Machine.{fault}
 use Rattle.lar_grammar.proofs.Going.{outside, Goes, Any, stops, HasFirst, seq, over_more, when_also, part, stays, left_out, left_before}

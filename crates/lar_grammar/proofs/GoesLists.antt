@@ -1,5 +1,5 @@
 -- The machine goes through lists with commas: further members, the closing sign, and lists in angle brackets.
-use Rattle.std.proofs.Common.{◌≡◌, ℕ, zero, suc, ◌-◌, List, [], ◌∷◌, ◌++◌, Option, Some, None, Bool, true, false, refl, sym, ap, ◌∙◌, subst}
+use Rattle.std.proofs.Common.{◌≡◌, ℕ, zero, suc, ◌-◌, List, [], ◌∷◌, ◌++◌, Some, Bool, true, false, refl, sym, ap, ◌∙◌, subst}
 use Rattle.lar_tree.specs.declared.file.Span.{Span}
 use Rattle.lar_tree.specs.declared.sign.Sign.{Sign}
 use Rattle.lar_tree.specs.declared.sign.Sign.TheVariants as sign
@@ -10,10 +10,10 @@ use Rattle.lar_tree.specs.Spelling.{sign_token}
 use Rattle.lar_tree.specs.Marks.{Marked, un, over}
 use Rattle.lar_tree.proofs.MarkedTokens.{tokens_of}
 use Rattle.lar_grammar.specs.Looks.{Look, look, is_sign, is_name}
-use Rattle.lar_grammar.specs.Symbols.{Listed, expr_member, init_member, field_member, arg_member, generic_member, name_member, type_member, Symbol, one_sign, member, further, more, listed, angle, one_type, operand, level, tails, Stack, Move, skip, fail, take, enter, then_, when}
-use Rattle.lar_grammar.specs.Moves.{expand, begin, operand_at, type_at, arg_at, generic_at, climb, angle_rest}
-use Rattle.lar_grammar.proofs.Going.{Where, inside, outside, Goes, Any, token_then, part, over_more, left_out, opens, alike, when_also, past_limit, tokens_on, HasFirst}
-use Rattle.lar_grammar.proofs.GoingTokens.{other_sign, at_sign, at_no, not_sign, sign_then, sign_goes}
+use Rattle.lar_grammar.specs.Symbols.{Listed, expr_member, init_member, field_member, arg_member, generic_member, name_member, type_member, one_sign, member, further, more, listed, angle, tails, Stack, Move, skip, fail, take, enter, then_, when}
+use Rattle.lar_grammar.specs.Moves.{expand, operand_at, type_at, arg_at, generic_at, climb, angle_rest}
+use Rattle.lar_grammar.proofs.Going.{Where, Goes, token_then, part, left_out, opens, alike, past_limit, tokens_on, HasFirst}
+use Rattle.lar_grammar.proofs.GoingTokens.{other_sign, at_sign, at_no, sign_goes}
 
 -- ---- a member is not left out
 

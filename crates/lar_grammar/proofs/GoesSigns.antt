@@ -1,17 +1,14 @@
 -- What may stand behind an expression, and how signs of each height are gone on with.
-use Rattle.std.proofs.Common.{◌≡◌, ℕ, zero, suc, ◌+◌, ◌-◌, ◌≤◌, ◌<◌, ◌⊎◌, inl, inr, ◌&&◌, nat_le, List, [], ◌∷◌, ◌++◌, Option, Some, None, Bool, true, false, refl, sym, ap, ◌∙◌, subst, arith}
+use Rattle.std.proofs.Common.{◌≡◌, ℕ, ◌-◌, ◌≤◌, ◌<◌, ◌⊎◌, inl, inr, ◌&&◌, nat_le, [], ◌∷◌, Option, Some, None, Bool, true, false, refl, sym, ap, ◌∙◌, subst, arith}
 use borrow.Author.Tests.{le-leb, lt-leb}
-use Rattle.lar_tree.specs.declared.file.Span.{Span}
 use Rattle.lar_tree.specs.declared.sign.Sign.{Sign}
 use Rattle.lar_tree.specs.declared.sign.Sign.TheVariants as sign
 use Rattle.lar_tree.specs.declared.token.Kind.TheVariants as kind
-use Rattle.lar_tree.specs.declared.token.Token.{Token}
 use Rattle.lar_tree.specs.declared.expr.Binary.{Binary}
 use Rattle.lar_tree.specs.declared.expr.Binary.TheVariants as binary
-use Rattle.lar_tree.specs.Spelling.{sign_token}
 use Rattle.lar_tree.specs.Exprs.{PlainExpr, number, truth, untruth, paren, new_struct, path, call, field, unary_of, binary_of, binary_sign, height_of, left_height, height}
-use Rattle.lar_grammar.specs.Looks.{Look, look, is_sign, operator}
-use Rattle.lar_grammar.specs.Symbols.{Symbol, level, tails, post, selector, Stack, Move, skip, fail, take, when}
+use Rattle.lar_grammar.specs.Looks.{Look, is_sign, operator}
+use Rattle.lar_grammar.specs.Symbols.{level, tails, post, skip, take, when}
 use Rattle.lar_grammar.specs.Moves.{expand, next_low, in_reach, operated, path_on}
 use Rattle.lar_grammar.proofs.GoingTokens.{same_sign-self, other_sign, at_no}
 use Rattle.lar_grammar.proofs.GoesLists.{Ends, ends-are}

@@ -1,5 +1,5 @@
 -- The machine goes through the tokens of each type.
-use Rattle.std.proofs.Common.{◌≡◌, ℕ, ◌-◌, List, [], ◌∷◌, ◌++◌, Option, Some, None, Bool, true, false, refl, sym, ap, ◌∙◌, subst}
+use Rattle.std.proofs.Common.{◌≡◌, ℕ, ◌-◌, List, [], ◌∷◌, ◌++◌, Option, Some, None, false, refl, sym, ap, subst}
 use Rattle.lar_tree.specs.declared.file.Span.{Span}
 use Rattle.lar_tree.specs.declared.sign.Sign.{Sign}
 use Rattle.lar_tree.specs.declared.sign.Sign.TheVariants as sign
@@ -10,15 +10,15 @@ use Rattle.lar_tree.specs.declared.name.Path.{Path}
 use Rattle.lar_tree.specs.declared.name.Segment.{Segment}
 use Rattle.lar_tree.specs.declared.ty.SignedNumber.{SignedNumber}
 use Rattle.lar_tree.specs.Spelling.{sign_token, word_token, number_token, name_token, flat_segments, flat_path, flat_minus, flat_signed}
-use Rattle.lar_tree.specs.Types.{PlainTy, int_type, bool_type, unit_type, tuple_type, named_type, generic_type, MoreTypes, last_type, next_type, PlainArgs, angle_args, PlainArg, type_arg, number_arg, MoreArgs, last_arg, next_arg}
-use Rattle.lar_tree.specs.Marks.{Marked, un, unmarked, over, marked_type, marked_types, marked_args, marked_arg, marked_more_args, outermost_type}
+use Rattle.lar_tree.specs.Types.{PlainTy, int_type, bool_type, unit_type, tuple_type, named_type, generic_type, MoreTypes, last_type, next_type, angle_args, PlainArg, type_arg, number_arg, MoreArgs, last_arg, next_arg}
+use Rattle.lar_tree.specs.Marks.{Marked, un, unmarked, over, marked_type, marked_types, marked_arg, marked_more_args, outermost_type}
 use Rattle.lar_tree.proofs.MarkedTokens.{tokens_of}
 use Rattle.lar_grammar.specs.Looks.{Look, look, is_sign}
-use Rattle.lar_grammar.specs.Symbols.{Listed, arg_member, type_member, Symbol, one_sign, one_name, one_number, member, more, listed, angle, one_type, tuple_rest, segments, outer_type, Stack, Move, skip, fail, take}
-use Rattle.lar_grammar.specs.Moves.{expand, type_at, arg_at, angle_rest}
-use Rattle.lar_grammar.proofs.Going.{Where, inside, outside, Goes, Any, token, token_then, part, over_more, left_out, drop_end, opens, alike, when_also, outermost-goes, HasFirst, has_first-append, tokens_on}
+use Rattle.lar_grammar.specs.Symbols.{arg_member, type_member, one_sign, one_name, one_number, member, more, angle, one_type, tuple_rest, segments, outer_type, Stack, skip, fail}
+use Rattle.lar_grammar.specs.Moves.{type_at, arg_at, angle_rest}
+use Rattle.lar_grammar.proofs.Going.{inside, outside, Goes, token, token_then, part, over_more, left_out, drop_end, opens, alike, when_also, outermost-goes, HasFirst, tokens_on}
 use Rattle.lar_grammar.proofs.GoingTokens.{other_sign, at_sign, at_no, not_sign, sign_then, sign_goes, name_then, number_goes}
-use Rattle.lar_grammar.proofs.GoesLists.{type_not_skip, IsAt, Ends, ends-are, Further, no_further, one_further, ends-before, angle_closed, angle_none, angle_some}
+use Rattle.lar_grammar.proofs.GoesLists.{type_not_skip, Ends, ends-are, Further, no_further, one_further, ends-before, angle_closed, angle_some}
 
 -- ---- what may stand behind a type
 

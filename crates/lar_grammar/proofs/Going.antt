@@ -1,10 +1,10 @@
 -- The machine goes through tokens, from one stack to another: what that means, and how such parts are put together.
-use Rattle.std.proofs.Common.{◌≡◌, ℕ, zero, suc, List, [], ◌∷◌, ◌++◌, Option, Some, None, Bool, true, false, if◌then◌else◌, refl, sym, ap, ◌∙◌, subst, append_assoc, append-nil}
+use Rattle.std.proofs.Common.{◌≡◌, ℕ, zero, suc, List, [], ◌∷◌, ◌++◌, Option, Some, None, true, false, if◌then◌else◌, refl, sym, ap, ◌∙◌, append_assoc}
 use Rattle.lar_tree.specs.declared.token.Token.{Token}
 use Rattle.lar_tree.specs.Marks.{Marked, un, over, cut}
 use Rattle.lar_tree.proofs.MarkedTokens.{tokens_of, tokens-append, tokens-cut}
 use Rattle.lar_grammar.specs.Looks.{Look, look}
-use Rattle.lar_grammar.specs.Symbols.{Listed, Symbol, member, further, leave, Stack, Move, skip, fail, take, enter, then_, entering}
+use Rattle.lar_grammar.specs.Symbols.{Listed, Symbol, further, leave, Stack, Move, skip, fail, take, enter, then_, entering}
 use Rattle.lar_grammar.specs.Moves.{expand}
 use Rattle.lar_grammar.specs.Machine.{Room, spend, left, spent, moves, after, skips, ends, goes, fault}
 

@@ -1,5 +1,5 @@
 -- The machine goes through single tokens: signs, keywords, names and numbers.
-use Rattle.std.proofs.Common.{◌≡◌, ℕ, ℤ, List, [], ◌∷◌, ◌++◌, Option, Some, None, Bool, true, false, refl, sym, ap, ◌∙◌, subst, rules}
+use Rattle.std.proofs.Common.{◌≡◌, ℤ, List, [], ◌∷◌, Some, Bool, true, false, refl, ap, rules}
 use Rattle.lar_tree.specs.declared.file.Span.{Span}
 use Rattle.lar_tree.specs.declared.keyword.Keyword.{Keyword}
 use Rattle.lar_tree.specs.declared.sign.Sign.{Sign}
@@ -10,9 +10,9 @@ use Rattle.lar_tree.specs.contracts.keyword.Keyword.{the_type as keyword_type}
 use denote.Enum.Bare.{true_same, false_same, same_true}
 use Rattle.lar_tree.specs.Spelling.{sign_token, word_token, number_token, name_token}
 use Rattle.lar_tree.specs.Marks.{Marked, un}
-use Rattle.lar_grammar.specs.Looks.{Look, look, same_sign, same_word, is_sign, is_word, is_name, is_number}
-use Rattle.lar_grammar.specs.Symbols.{Symbol, one_sign, one_word, one_name, one_number, Stack, Move, skip, fail, take, enter, when}
-use Rattle.lar_grammar.proofs.Going.{Where, inside, outside, Goes, token, token_then}
+use Rattle.lar_grammar.specs.Looks.{Look, same_sign, same_word, is_sign, is_word}
+use Rattle.lar_grammar.specs.Symbols.{one_sign, one_word, one_name, one_number, Stack, Move, fail, take, when}
+use Rattle.lar_grammar.proofs.Going.{Where, Goes, token, token_then}
 
 -- ---- which sign, and which keyword
 

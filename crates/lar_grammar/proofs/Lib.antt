@@ -30,3 +30,5 @@ pub mod TakesLists
 pub mod TakesStmts
 pub mod TakesTypes
 pub mod Taking
+pub mod UnplacedExprs
+pub mod UnplacedItems

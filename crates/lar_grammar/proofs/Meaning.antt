@@ -1,8 +1,7 @@
 -- Which tokens each symbol stands for, and which a stack.
-use Rattle.std.proofs.Common.{◌≡◌, ℕ, ℤ, ◌+◌, ◌-◌, ◌≤◌, ◌⊎◌, List, [], ◌∷◌, ◌++◌, Option, Some, None}
+use Rattle.std.proofs.Common.{◌≡◌, ℕ, ℤ, ◌+◌, ◌-◌, ◌≤◌, List, [], ◌∷◌, ◌++◌, Option}
 use Rattle.lar_tree.specs.declared.file.Span.{Span}
 use Rattle.lar_tree.specs.declared.keyword.Keyword.TheVariants as keyword
-use Rattle.lar_tree.specs.declared.sign.Sign.{Sign}
 use Rattle.lar_tree.specs.declared.sign.Sign.TheVariants as sign
 use Rattle.lar_tree.specs.declared.token.Token.{Token}
 use Rattle.lar_tree.specs.declared.token.Kind.TheVariants as kind
@@ -17,8 +16,8 @@ use Rattle.lar_tree.specs.declared.item.Generic.{Generic}
 use Rattle.lar_tree.specs.Spelling.{sign_token, word_token, number_token, name_token, flat_path, flat_segments, flat_signed, flat_option}
 use Rattle.lar_tree.specs.Types.{PlainTy, PlainArg, flat_type, flat_arg}
 use Rattle.lar_tree.specs.Exprs.{PlainExpr, PlainInit, flat_expr, flat_init, selector_token, height, height_of, left_height, Grouped}
-use Rattle.lar_tree.specs.Stmts.{PlainSetting, PlainStmt, PlainBlock, PlainStmts, PlainElse, flat_stmt, flat_block, flat_stmts, flat_else, flat_setting, IfThere, GroupedStmt, GroupedBlock, GroupedStmts, GroupedElse}
-use Rattle.lar_tree.specs.Items.{PlainField, PlainOutput, PlainFn, PlainItem, PlainItems, attribute_name, flat_field, flat_generic, flat_name, flat_output, flat_head, flat_item, flat_items, GroupedItem, GroupedItems}
+use Rattle.lar_tree.specs.Stmts.{PlainSetting, PlainBlock, PlainStmts, PlainElse, flat_block, flat_stmts, flat_else, flat_setting, IfThere, GroupedBlock, GroupedStmts, GroupedElse}
+use Rattle.lar_tree.specs.Items.{PlainField, PlainOutput, PlainFn, PlainItems, attribute_name, flat_field, flat_generic, flat_name, flat_output, flat_head, flat_items, GroupedItems}
 use Rattle.lar_grammar.specs.Symbols.{Listed, expr_member, init_member, field_member, arg_member, generic_member, name_member, type_member, Symbol, one_sign, one_word, one_name, one_number, signed_number, attribute_word, member, further, more, listed, angle, one_type, tuple_rest, segments, outer_type, level, operand, tails, post, selector, path_rest, sep_rest, new_rest, new_sep_rest, outer_expr, leave, return_rest, setting_rest, one_block, statements, else_part, branch, body, module_items, attributed, output, program, Stack}
 
 -- a type with these tokens

@@ -239,7 +239,9 @@ mutual
       let q = same_items xs ys r s p.1 g.1 k.1 a b in
       (cc (p.0, q.0), q.1)
 
+-- grouped trees of the same tokens are the same
+pub same_tree : (p q : PlainItems) → GroupedItems p → GroupedItems q → flat_items p ≡ flat_items q → p ≡ q
+same_tree p q g k e = (same_items p q [] [] (ap (λ us. us ++ []) e) g k (λ h. h) (λ h. h)).0
+
 pub one_tree : (p q : PlainItems) (ts : List Token) → Spells p ts → Spells q ts → p ≡ q
-one_tree p q ts x y =
-    let e : flat_items p ++ [] ≡ flat_items q ++ [] = ap (λ us. us ++ []) (spelled p ts x ∙ sym (spelled q ts y)) in
-    (same_items p q [] [] e x.0 y.0 (λ h. h) (λ h. h)).0
+one_tree p q ts x y = same_tree p q x.0 y.0 (spelled p ts x ∙ sym (spelled q ts y))

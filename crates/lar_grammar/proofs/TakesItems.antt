@@ -7,9 +7,7 @@ use Rattle.lar_tree.specs.declared.sign.Sign.TheVariants as sign
 use Rattle.lar_tree.specs.declared.token.Token.{Token}
 use Rattle.lar_tree.specs.declared.token.Kind.{Kind}
 use Rattle.lar_tree.specs.declared.token.Kind.TheVariants as kind
-use Rattle.lar_tree.specs.declared.name.Name.{Name}
 use Rattle.lar_tree.specs.declared.item.Attribute.{Attribute}
-use Rattle.lar_tree.specs.declared.item.Const.{Const}
 use Rattle.lar_tree.specs.Spelling.{sign_token, word_token, name_token}
 use Rattle.lar_tree.specs.Items.{PlainFn, PlainItem, module_item, struct_item, const_item, fn_item, PlainItems, items, attribute_name, flat_item, flat_items, GroupedItem, GroupedItems}
 use Rattle.lar_grammar.specs.Looks.{is_sign, attribute_at}

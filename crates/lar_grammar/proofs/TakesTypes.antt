@@ -1,5 +1,5 @@
 -- A token that a type's symbol takes, and what completes the stack behind it, are what the symbol stands for.
-use Rattle.std.proofs.Common.{◌≡◌, List, [], ◌∷◌, ◌++◌, Some, None, Bool, sym, ap, ◌∙◌}
+use Rattle.std.proofs.Common.{◌≡◌, List, [], ◌∷◌, ◌++◌, Some, None, sym, ap, ◌∙◌}
 use Rattle.lar_tree.specs.declared.file.Span.{Span}
 use Rattle.lar_tree.specs.declared.keyword.Keyword.TheVariants as keyword
 use Rattle.lar_tree.specs.declared.sign.Sign.TheVariants as sign
@@ -7,7 +7,6 @@ use Rattle.lar_tree.specs.declared.token.Kind.{Kind}
 use Rattle.lar_tree.specs.declared.token.Kind.TheVariants as kind
 use Rattle.lar_tree.specs.declared.token.Token.{Token}
 use Rattle.lar_tree.specs.declared.item.Generic.TheVariants as generic
-use Rattle.lar_tree.specs.declared.name.Name.{Name}
 use Rattle.lar_tree.specs.declared.name.Path.{Path}
 use Rattle.lar_tree.specs.Spelling.{sign_token, word_token, number_token, name_token, flat_segments}
 use Rattle.lar_tree.specs.Types.{int_type, bool_type, unit_type, tuple_type, type_arg, number_arg, flat_type, flat_types}

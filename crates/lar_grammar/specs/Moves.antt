@@ -1,14 +1,13 @@
 -- What each symbol does with the next token: the grammar, one token ahead.
-use Rattle.std.specs.Prelude.{ℕ, zero, suc, ◌-◌, ◌&&◌, nat_le, Bool, List, [], ◌∷◌, Option, Some, None, is_some}
+use Rattle.std.specs.Prelude.{ℕ, zero, suc, ◌-◌, ◌&&◌, nat_le, Bool, [], ◌∷◌, Option, Some, None, is_some}
 use Rattle.lar_tree.specs.declared.keyword.Keyword.TheVariants as keyword
-use Rattle.lar_tree.specs.declared.sign.Sign.{Sign}
 use Rattle.lar_tree.specs.declared.sign.Sign.TheVariants as sign
 use Rattle.lar_tree.specs.declared.token.Kind.TheVariants as kind
 use Rattle.lar_tree.specs.declared.expr.Binary.{Binary}
 use Rattle.lar_tree.specs.declared.expr.Binary.TheVariants as binary
 use Rattle.lar_tree.specs.Exprs.{height_of}
 use Rattle.lar_grammar.specs.Looks.{Look, is_sign, is_word, is_name, is_number, attribute_at, operator}
-use Rattle.lar_grammar.specs.Symbols.{Listed, expr_member, init_member, field_member, arg_member, generic_member, name_member, type_member, Symbol, one_sign, one_word, one_name, one_number, signed_number, attribute_word, member, further, more, listed, angle, one_type, tuple_rest, segments, outer_type, level, operand, tails, post, selector, path_rest, sep_rest, new_rest, new_sep_rest, outer_expr, leave, return_rest, setting_rest, one_block, statements, else_part, branch, body, module_items, attributed, output, program, Stack, Move, skip, fail, take, enter, then_, entering, when}
+use Rattle.lar_grammar.specs.Symbols.{Listed, expr_member, init_member, field_member, arg_member, generic_member, name_member, type_member, Symbol, one_sign, one_word, one_name, one_number, signed_number, attribute_word, member, further, more, listed, angle, one_type, tuple_rest, segments, outer_type, level, operand, tails, post, selector, path_rest, sep_rest, new_rest, new_sep_rest, outer_expr, leave, return_rest, setting_rest, one_block, statements, else_part, branch, body, module_items, attributed, output, program, Stack, Move, skip, fail, take, then_, entering, when}
 
 -- the symbols of `<`, at most sixteen members and `>`, from behind the `<` on
 abbrev pub angle_rest : Listed → Stack

@@ -1,5 +1,5 @@
 -- What may come next, as symbols, and what a symbol does with a token.
-use Rattle.std.specs.Prelude.{ℕ, List, [], ◌++◌, Bool, true, false}
+use Rattle.std.specs.Prelude.{ℕ, List, ◌++◌, Bool, true, false}
 use Rattle.lar_tree.specs.declared.keyword.Keyword.{Keyword}
 use Rattle.lar_tree.specs.declared.sign.Sign.{Sign}
 

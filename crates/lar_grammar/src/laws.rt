@@ -2,14 +2,21 @@
 //! calls to have the law.
 ghost use Rattle.std.specs.Prelude.{◌≡◌, ◌+◌, ◌⊎◌, ℕ, List, [], ◌∷◌, Some, None, length};
 ghost use Rattle.lar_tree.specs.declared.token.Token.{Token};
+ghost use Rattle.lar_tree.specs.Spelling.{kinds};
 ghost use Rattle.lar_tree.specs.Items.{PlainItems, GroupedItems, flat_items};
 ghost use Rattle.lar_tree.specs.Programs.{Spells, IsFirstFault};
 ghost use Rattle.lar_grammar.specs.Symbols.{program};
 ghost use Rattle.lar_grammar.specs.Machine.{fault};
+ghost use Rattle.lar_grammar.specs.Unplaced.{unplaced_items};
 
 /// The grammar is unambiguous: tokens have at most one tree.
 pub fn one_tree()
     ensures { (p q : PlainItems) (ts : List Token) → Spells p ts → Spells q ts → p ≡ q }
+{}
+
+/// The grammar is unambiguous: trees whose tokens are of the same kinds differ in the places of their tokens alone.
+pub fn one_tree_by_kinds()
+    ensures { (p q : PlainItems) → GroupedItems p → GroupedItems q → kinds (flat_items p) ≡ kinds (flat_items q) → unplaced_items p ≡ unplaced_items q }
 {}
 
 /// Tokens are a program, or they have a first fault.
