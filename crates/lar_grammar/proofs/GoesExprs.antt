@@ -101,7 +101,7 @@ goes-new_path (s ∷ ss) = token_then (sign_token sign.PathSep s.sep) (new_sep_r
 post-path : (p : Path) → Goes inside NotCall (unmarked (flat_path p)) (operand ∷ []) (post ∷ [])
 post-path p =
     token_then (name_token p.first) (path_rest ∷ post ∷ []) refl
-      (drop_end path_rest (λ r. refl) (λ l q. tt) skip_path (over_more (goes-path p.more) (post ∷ [])))
+    (drop_end path_rest (λ r. refl) (λ l q. tt) skip_path (over_more (goes-path p.more) (post ∷ [])))
 
 -- a call's arguments, from behind its `(` on
 goes-in_parens : {P : Look → Type 0} (n : ℕ) (ps : PlainParts) (to : Span) → Goes inside (IsAt sign.CloseParen) (marked_parts n ps) (listed expr_member n sign.CloseParen ∷ []) [] → Goes inside P (marked_parts n ps ++ un (sign_token sign.CloseParen to) ∷ []) (in_parens expr_member n) []
@@ -112,8 +112,8 @@ goes-call : (generics : Option PlainTurbofish) (from to : Span) (ps : PlainParts
 goes-call None from to ps g = token_then (sign_token sign.OpenParen from) (in_parens expr_member 15) refl (goes-in_parens 15 ps to g)
 goes-call (Some (sep, angle_args less a others greater)) from to ps g =
     token_then (sign_token sign.PathSep sep) (sep_rest ∷ []) refl
-      (token_then (sign_token sign.Less less) (member arg_member ∷ more arg_member 15 ∷ one_sign sign.Greater ∷ one_sign sign.OpenParen ∷ in_parens expr_member 15) refl
-        (part {P = Any} (one_sign sign.OpenParen ∷ in_parens expr_member 15) (goes-args a others greater) (sign_then sign.OpenParen from (goes-in_parens 15 ps to g)) (λ rest q. tt)))
+    (token_then (sign_token sign.Less less) (member arg_member ∷ more arg_member 15 ∷ one_sign sign.Greater ∷ one_sign sign.OpenParen ∷ in_parens expr_member 15) refl
+    (part {P = Any} (one_sign sign.OpenParen ∷ in_parens expr_member 15) (goes-args a others greater) (sign_then sign.OpenParen from (goes-in_parens 15 ps to g)) (λ rest q. tt)))
 
 post-call : (p : Path) (generics : Option PlainTurbofish) (from to : Span) (ps : PlainParts) → Goes inside (IsAt sign.CloseParen) (marked_parts 15 ps) (listed expr_member 15 sign.CloseParen ∷ []) [] → Goes inside NotCall (marked_expr (call p generics from ps to)) (operand ∷ []) (post ∷ [])
 post-call p generics from to ps g =
@@ -127,13 +127,13 @@ goes-new : (generics : Option PlainTurbofish) (from to : Span) (is : PlainInits)
 goes-new None from to is g = token_then (sign_token sign.OpenBrace from) (in_braces init_member 63) refl (closed init_member 63 sign.CloseBrace (marked_inits is) to g)
 goes-new (Some (sep, angle_args less a others greater)) from to is g =
     token_then (sign_token sign.PathSep sep) (new_sep_rest ∷ []) refl
-      (token_then (sign_token sign.Less less) (member arg_member ∷ more arg_member 15 ∷ one_sign sign.Greater ∷ one_sign sign.OpenBrace ∷ in_braces init_member 63) refl
-        (part {P = Any} (one_sign sign.OpenBrace ∷ in_braces init_member 63) (goes-args a others greater) (sign_then sign.OpenBrace from (closed init_member 63 sign.CloseBrace (marked_inits is) to g)) (λ rest q. tt)))
+    (token_then (sign_token sign.Less less) (member arg_member ∷ more arg_member 15 ∷ one_sign sign.Greater ∷ one_sign sign.OpenBrace ∷ in_braces init_member 63) refl
+    (part {P = Any} (one_sign sign.OpenBrace ∷ in_braces init_member 63) (goes-args a others greater) (sign_then sign.OpenBrace from (closed init_member 63 sign.CloseBrace (marked_inits is) to g)) (λ rest q. tt)))
 
 post-new : (at : Span) (p : Path) (generics : Option PlainTurbofish) (from to : Span) (is : PlainInits) → Goes inside (IsAt sign.CloseBrace) (marked_inits is) (listed init_member 63 sign.CloseBrace ∷ []) [] → Goes inside NotCall (marked_expr (new_struct at p generics from is to)) (operand ∷ []) (post ∷ [])
 post-new at p generics from to is g =
     token_then (word_token keyword.New at) (one_name ∷ new_rest ∷ post ∷ []) refl
-      (name_then p.first (over_more (seq (goes-new_path p.more) (goes-new generics from to is g) (λ rest q. tt)) (post ∷ [])))
+    (name_then p.first (over_more (seq (goes-new_path p.more) (goes-new generics from to is g) (λ rest q. tt)) (post ∷ [])))
 
 goes-selector : (s : Selector) → Goes inside NotCall (un (selector_token s) ∷ []) (selector ∷ []) []
 goes-selector (selects.Name n) = token (name_token n) refl
@@ -157,7 +157,7 @@ claims-operand e low small post_ g =
       posts = post_;
       whole = λ a. g;
       spine = λ h a b. subst (λ k. Goes inside (Quiet k) (marked_expr e) (level h ∷ []) (tails (low_of e) h ∷ [])) (sym none)
-        (subst (λ k. Goes inside (Quiet 0) (marked_expr e) (level h ∷ []) (tails k h ∷ [])) (sym low) (spine-operand (marked_expr e) h g));
+          (subst (λ k. Goes inside (Quiet 0) (marked_expr e) (level h ∷ []) (tails k h ∷ [])) (sym low) (spine-operand (marked_expr e) h g));
     }
 
 -- of one of height 0
@@ -167,9 +167,9 @@ claims-post e low none g = claims-operand e low (omega arith) (λ a. g) (whole-o
 spine-binary : (l : PlainExpr) (op : Binary) (at : Span) (r : PlainExpr) → Claims l → Claims r → height l ≤ left_height op → height r + 1 ≤ height_of op → (h : ℕ) → 1 ≤ h → height_of op ≤ h → Goes inside (Quiet (height_of op - 1)) (marked_expr (binary_of l op at r)) (level h ∷ []) (tails (next_low op) h ∷ [])
 spine-binary l op at r c d left_low right_low h a b =
     seq (c.spine h a (omega (arith, left_not_above op)))
-      (token_then (sign_token (binary_sign op) at) (level (height_of op - 1) ∷ tails (next_low op) h ∷ []) (take_tails (low_of l) h op (low-fits l op left_low) b)
-        (over_more (full r d (height_of op - 1) (omega (arith, high_enough op)) (omega arith)) (tails (next_low op) h ∷ [])))
-      (λ rest q. quiet-operator op (height l - 1) (omega (arith, left_not_above op, high_enough op)))
+    (token_then (sign_token (binary_sign op) at) (level (height_of op - 1) ∷ tails (next_low op) h ∷ []) (take_tails (low_of l) h op (low-fits l op left_low) b)
+    (over_more (full r d (height_of op - 1) (omega (arith, high_enough op)) (omega arith)) (tails (next_low op) h ∷ [])))
+    (λ rest q. quiet-operator op (height l - 1) (omega (arith, left_not_above op, high_enough op)))
 
 claims-binary : (l : PlainExpr) (op : Binary) (at : Span) (r : PlainExpr) → Claims l → Claims r → height l ≤ left_height op → height r + 1 ≤ height_of op → Claims (binary_of l op at r)
 claims-binary l op at r c d left_low right_low = record {
@@ -201,7 +201,7 @@ height-bound (unary_of sign_ at inner) = omega arith
 goes-part : (e : PlainExpr) → Claims e → Goes inside (Ends sign.CloseParen) (marked_expr e) (member expr_member ∷ []) []
 goes-part e c =
     when_also (λ l z. ends-quiet sign.CloseParen l quiet-close z)
-      (alike (member expr_member) (level 6) (λ r. refl) (λ rest p. refl) (full e c 6 (omega arith) (height-bound e)))
+    (alike (member expr_member) (level 6) (λ r. refl) (λ rest p. refl) (full e c 6 (omega arith) (height-bound e)))
 
 some_parts : (n : ℕ) (e : PlainExpr) (others : List Marked) → Claims e → Further inside expr_member sign.CloseParen n others → Goes inside (IsAt sign.CloseParen) (marked_expr e ++ others) (listed expr_member n sign.CloseParen ∷ []) []
 some_parts n e others c f =
@@ -213,7 +213,7 @@ one_more_part n comma e others c f = one_further expr_member sign.CloseParen n c
 goes-init : (n : Name) (colon : Span) (e : PlainExpr) → Claims e → Goes inside (Ends sign.CloseBrace) (un (name_token n) ∷ un (sign_token sign.Colon colon) ∷ marked_expr e) (member init_member ∷ []) []
 goes-init n colon e c =
     when_also (λ l z. ends-quiet sign.CloseBrace l quiet-brace z)
-      (token_then (name_token n) (one_sign sign.Colon ∷ level 6 ∷ []) refl (sign_then sign.Colon colon (full e c 6 (omega arith) (height-bound e))))
+    (token_then (name_token n) (one_sign sign.Colon ∷ level 6 ∷ []) refl (sign_then sign.Colon colon (full e c 6 (omega arith) (height-bound e))))
 
 some_inits : (n : Name) (colon : Span) (e : PlainExpr) (others : List Marked) → Claims e → Further inside init_member sign.CloseBrace 63 others → Goes inside (IsAt sign.CloseBrace) (un (name_token n) ∷ un (sign_token sign.Colon colon) ∷ (marked_expr e ++ others)) (listed init_member 63 sign.CloseBrace ∷ []) []
 some_inits n colon e others c f =

@@ -60,7 +60,7 @@ goes_angled {A} {P} mark w h a =
     let others = marked_members mark 15 a.list.more in
     let close : List Marked = un (sign_token sign.Greater a.close) ∷ [] in
     subst (λ ms. Goes outside P (un (sign_token sign.Less a.open) ∷ ms) (angle w ∷ []) []) (sym (append_assoc (mark a.list.first) others close))
-      (angle_some w a.open a.close (mark a.list.first) others (h.each a.list.first) (goes_members mark w sign.Greater h 15 a.list.more))
+    (angle_some w a.open a.close (mark a.list.first) others (h.each a.list.first) (goes_members mark w sign.Greater h 15 a.list.more))
 
 -- where no `<` follows
 goes_angle : {A : Type 0} {P : Look → Type 0} (mark : A → List Marked) (w : Listed) → Members mark w sign.Greater → ((l : Look) → P l → is_sign sign.Less l ≡ false) → (o : Option (Angled A)) → Goes outside P (marked_option (marked_angled mark 15) o) (angle w ∷ []) []
@@ -160,7 +160,7 @@ goes_body : (n : ℕ) (from : Span) (is : PlainItems) (to : Span) → ((k : ℕ)
 goes_body zero from is to g = refused refl
 goes_body (suc k) from is to g = subst (λ j. Goes outside Any (un (sign_token sign.OpenBrace from) ∷ (marked_items j is ++ un (sign_token sign.CloseBrace to) ∷ [])) (body (suc k) ∷ []) []) (less_one k)
     (step_to (at_sign sign.OpenBrace _ fail) (part {from = module_items k ∷ []} (one_sign sign.CloseBrace ∷ []) (g k (module_items k) (in_module k))
-      (left_before (module_items k) (λ r. refl) (λ rest q. at_sign sign.CloseBrace skip _) (sign_then sign.CloseBrace to (stays _))) (λ rest q. tt)))
+    (left_before (module_items k) (λ r. refl) (λ rest q. at_sign sign.CloseBrace skip _) (sign_then sign.CloseBrace to (stays _))) (λ rest q. tt)))
 
 goes_module : (n : ℕ) (at : Span) (name : Name) (from : Span) (is : PlainItems) (to : Span) → ((k : ℕ) → GoesItems k is) → (s : Symbol) (onto : Stack) → TakesItem s n onto → Goes outside Any (marked_item n (module_item at name from is to)) (s ∷ []) onto
 goes_module n at name from is to g s onto t = step_to (t.word keyword.Mod) (name_then name (over_more (goes_body n from is to g) onto))

@@ -92,12 +92,12 @@ goes-segments (s ∷ ss) = token_then (sign_token sign.PathSep s.sep) (one_name 
 goes-named : (p : Path) → Goes inside QuietType (unmarked (flat_path p)) (one_type ∷ []) []
 goes-named p =
     token_then (name_token p.first) (segments ∷ angle arg_member ∷ []) refl
-      (drop_end (angle arg_member) (λ r. refl) (λ l q. q.path) (λ l q. at_no (is_sign sign.Less l) _ skip q.angle) (over_more (goes-segments p.more) (angle arg_member ∷ [])))
+    (drop_end (angle arg_member) (λ r. refl) (λ l q. q.path) (λ l q. at_no (is_sign sign.Less l) _ skip q.angle) (over_more (goes-segments p.more) (angle arg_member ∷ [])))
 
 goes-generic : (p : Path) (from to : Span) (ms others : List Marked) → Goes inside QuietType (un (sign_token sign.Less from) ∷ (ms ++ (others ++ un (sign_token sign.Greater to) ∷ []))) (angle arg_member ∷ []) [] → Goes inside QuietType (unmarked (flat_path p) ++ un (sign_token sign.Less from) ∷ (ms ++ (others ++ un (sign_token sign.Greater to) ∷ []))) (one_type ∷ []) []
 goes-generic p from to ms others g =
     token_then (name_token p.first) (segments ∷ angle arg_member ∷ []) refl
-      (part (angle arg_member ∷ []) (goes-segments p.more) g (λ rest q. other_sign sign.PathSep sign.Less (λ e. cc)))
+    (part (angle arg_member ∷ []) (goes-segments p.more) g (λ rest q. other_sign sign.PathSep sign.Less (λ e. cc)))
 
 goes-signed : (n : SignedNumber) → Goes inside QuietType (unmarked (flat_signed n)) (member arg_member ∷ []) []
 goes-signed n = minus_or_not n.minus
@@ -112,20 +112,23 @@ goes-type_arg t g = alike (member arg_member) one_type (λ r. refl) (λ rest p. 
 one_more_type : (n : ℕ) (comma : Span) (t : PlainTy) (others : List Marked) → Goes inside QuietType (marked_type t) (one_type ∷ []) [] → Further inside type_member sign.CloseParen (n - 1) others → Further inside type_member sign.CloseParen n (un (sign_token sign.Comma comma) ∷ (over n (marked_type t) ++ others))
 one_more_type n comma t others g f =
     one_further type_member sign.CloseParen n comma (marked_type t) others (has_first-type t)
-      (when_also (λ l e. ends-quiet_type sign.CloseParen l quiet-close e) (alike (member type_member) one_type (λ r. refl) (λ rest p. refl) g)) f
+    (when_also (λ l e. ends-quiet_type sign.CloseParen l quiet-close e) (alike (member type_member) one_type (λ r. refl) (λ rest p. refl) g)) f
 
 -- behind the bracket of a tuple
 goes-tuple : (t : PlainTy) (comma : Span) (second others : List Marked) (to : Span) → Goes inside QuietType (marked_type t) (one_type ∷ []) [] → Goes inside QuietType second (one_type ∷ []) [] → Further inside type_member sign.CloseParen 6 others → Goes inside QuietType (marked_type t ++ un (sign_token sign.Comma comma) ∷ (second ++ (others ++ un (sign_token sign.CloseParen to) ∷ []))) (tuple_rest ∷ []) []
 goes-tuple t comma second others to g h f =
     opens tuple_rest one_type behind [] (λ rest p. at_no _ _ _ (first_not_close rest)) type_not_skip
-      (part behind g (sign_then sign.Comma comma (part (more type_member 6 ∷ one_sign sign.CloseParen ∷ []) h (part (one_sign sign.CloseParen ∷ []) f.goes (sign_goes sign.CloseParen to) (λ rest p. refl)) second_ends)) (λ rest p. quiet-comma))
+    (part behind g (sign_then sign.Comma comma (part (more type_member 6 ∷ one_sign sign.CloseParen ∷ []) h (part (one_sign sign.CloseParen ∷ []) f.goes (sign_goes sign.CloseParen to) (λ rest p. refl)) second_ends)) (λ rest p. quiet-comma))
   where
     behind : Stack
     behind = one_sign sign.Comma ∷ one_type ∷ more type_member 6 ∷ one_sign sign.CloseParen ∷ []
+
     tail : List Marked
     tail = un (sign_token sign.Comma comma) ∷ (second ++ (others ++ un (sign_token sign.CloseParen to) ∷ []))
+
     first_not_close : (rest : List Token) → is_sign sign.CloseParen (look (tokens_of (marked_type t ++ tail) ++ rest)) ≡ false
     first_not_close rest = not_close _ (subst (λ x. BeginsType (look x)) (sym (tokens_on (marked_type t) tail rest)) (begins-type t (tokens_of tail ++ rest)))
+
     second_ends : (rest : List Token) → QuietType (look rest) → QuietType (look (tokens_of (others ++ un (sign_token sign.CloseParen to) ∷ []) ++ rest))
     second_ends rest p = ends-quiet_type sign.CloseParen _ quiet-close (ends-before f (sign_token sign.CloseParen to) [] refl rest)
 
@@ -141,7 +144,7 @@ mutual
   goes-type (named_type p) = goes-named p
   goes-type (generic_type p (angle_args from a others to)) =
       goes-generic p from to (marked_arg a) (marked_more_args 15 others)
-        (angle_some arg_member from to (marked_arg a) (marked_more_args 15 others) (when_also (λ l e. ends-quiet_type sign.Greater l quiet-greater e) (goes-arg a)) (further-args 15 others))
+      (angle_some arg_member from to (marked_arg a) (marked_more_args 15 others) (when_also (λ l e. ends-quiet_type sign.Greater l quiet-greater e) (goes-arg a)) (further-args 15 others))
 
   further-types : (n : ℕ) (ts : MoreTypes) → Further inside type_member sign.CloseParen n (marked_types n ts)
   further-types n last_type = no_further type_member sign.CloseParen n (λ e. cc)
@@ -155,7 +158,7 @@ mutual
   further-args n last_arg = no_further arg_member sign.Greater n (λ e. cc)
   further-args n (next_arg comma a others) =
       one_further arg_member sign.Greater n comma (marked_arg a) (marked_more_args (n - 1) others) (has_first-arg a)
-        (when_also (λ l e. ends-quiet_type sign.Greater l quiet-greater e) (goes-arg a)) (further-args (n - 1) others)
+      (when_also (λ l e. ends-quiet_type sign.Greater l quiet-greater e) (goes-arg a)) (further-args (n - 1) others)
 
 -- generics from behind their `<` on
 pub goes-args : {P : Look → Type 0} (a : PlainArg) (others : MoreArgs) (to : Span) → Goes inside P (marked_arg a ++ (marked_more_args 15 others ++ un (sign_token sign.Greater to) ∷ [])) (angle_rest arg_member) []

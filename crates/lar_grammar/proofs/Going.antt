@@ -123,19 +123,19 @@ Any l = Unit {0}
 pub seq : {w : Where} {P Q : Look → Type 0} {a b : List Marked} {from mid to : Stack} → Goes w P a from mid → Goes w Q b mid to → ((rest : List Token) → Q (look rest) → P (look (tokens_of b ++ rest))) → Goes w Q (a ++ b) from to
 seq {w} {P} {Q} {a} {b} {from} {mid} {to} g h k = record {
   runs = λ room ok rest ss q.
-    ap (λ x. fault x room (from ++ ss)) (tokens_on a b rest)
-    ∙ g.runs room ok (tokens_of b ++ rest) ss (k rest q)
-    ∙ stops_same w a room ok (tokens_of b ++ rest) _ _ (λ r fits. h.runs r fits rest ss q)
-    ∙ sym (stops_append a b room rest (λ r. fault rest r (to ++ ss)));
+      ap (λ x. fault x room (from ++ ss)) (tokens_on a b rest)
+      ∙ g.runs room ok (tokens_of b ++ rest) ss (k rest q)
+      ∙ stops_same w a room ok (tokens_of b ++ rest) _ _ (λ r fits. h.runs r fits rest ss q)
+      ∙ sym (stops_append a b room rest (λ r. fault rest r (to ++ ss)));
 }
 
 -- the same over a longer stack
 pub over_more : {w : Where} {P : Look → Type 0} {a : List Marked} {from to : Stack} → Goes w P a from to → (onto : Stack) → Goes w P a (from ++ onto) (to ++ onto)
 over_more {w} {P} {a} {from} {to} g onto = record {
   runs = λ room ok rest ss p.
-    ap (fault (tokens_of a ++ rest) room) (append_assoc from onto ss)
-    ∙ g.runs room ok rest (onto ++ ss) p
-    ∙ stops_same w a room ok rest _ _ (λ r fits. ap (fault rest r) (sym (append_assoc to onto ss)));
+      ap (fault (tokens_of a ++ rest) room) (append_assoc from onto ss)
+      ∙ g.runs room ok rest (onto ++ ss) p
+      ∙ stops_same w a room ok rest _ _ (λ r fits. ap (fault rest r) (sym (append_assoc to onto ss)));
 }
 
 -- a part, and what stands behind its symbols
@@ -173,17 +173,17 @@ left_before {ms = ms} {more = more} s z e g = record { runs = λ room ok rest ss
 pub drop_end : {w : Where} {P Q : Look → Type 0} {a : List Marked} {from to : Stack} (s : Symbol) → ((room : Room) → left s room ≡ room) → ((l : Look) → Q l → P l) → ((l : Look) → Q l → expand s l ≡ skip) → Goes w P a from (s ∷ to) → Goes w Q a from to
 drop_end {w} {P} {Q} {a} {from} {to} s z k e g = record {
   runs = λ room ok rest ss q.
-    g.runs room ok rest ss (k (look rest) q)
-    ∙ stops_same w a room ok rest _ _ (λ r fits. passes_skip rest r s (to ++ ss) (e (look rest) q) ∙ ap (λ x. fault rest x (to ++ ss)) (z r));
+      g.runs room ok rest ss (k (look rest) q)
+      ∙ stops_same w a room ok rest _ _ (λ r fits. passes_skip rest r s (to ++ ss) (e (look rest) q) ∙ ap (λ x. fault rest x (to ++ ss)) (z r));
 }
 
 -- a symbol that begins as another and more
 pub opens : {w : Where} {P : Look → Type 0} {ms : List Marked} {to : Stack} (s s' : Symbol) (more behind : Stack) → ((rest : List Token) → P (look rest) → expand s (look (tokens_of ms ++ rest)) ≡ then_ (expand s' (look (tokens_of ms ++ rest))) more) → ((l : Look) → expand s' l ≡ skip → ⊥) → Goes w P ms (s' ∷ (more ++ behind)) to → Goes w P ms (s ∷ behind) to
 opens {ms = ms} s s' more behind e n g = record {
   runs = λ room ok rest ss p.
-    split (tokens_of ms ++ rest) room s s' more (behind ++ ss) _ refl (e rest p) (n _)
-    ∙ ap (λ x. fault (tokens_of ms ++ rest) room (s' ∷ x)) (sym (append_assoc more behind ss))
-    ∙ g.runs room ok rest ss p;
+      split (tokens_of ms ++ rest) room s s' more (behind ++ ss) _ refl (e rest p) (n _)
+      ∙ ap (λ x. fault (tokens_of ms ++ rest) room (s' ∷ x)) (sym (append_assoc more behind ss))
+      ∙ g.runs room ok rest ss p;
 }
 
 alike_at : (ts : List Token) (room : Room) (s s' : Symbol) (ss : Stack) → expand s (look ts) ≡ expand s' (look ts) → left s room ≡ left s' room → fault ts room (s ∷ ss) ≡ fault ts room (s' ∷ ss)
@@ -200,11 +200,11 @@ alike {ms = ms} {behind = behind} s s' z e g = record { runs = λ room ok rest s
 pub outermost-goes : {P : Look → Type 0} {ms : List Marked} (s s' : Symbol) (more : Stack) → ((rest : List Token) → P (look rest) → expand s' (look (tokens_of ms ++ rest)) ≡ then_ (entering (expand s (look (tokens_of ms ++ rest)))) (leave ∷ more)) → ((l : Look) → expand s l ≡ skip → ⊥) → Goes inside P ms (s ∷ []) [] → Goes outside P (cut 512 ms) (s' ∷ []) more
 outermost-goes {ms = ms} s s' more e n g = record {
   runs = λ room ok rest ss p.
-    ap (λ x. fault (x ++ rest) room (s' ∷ ss)) (tokens-cut 512 ms)
-    ∙ entered (tokens_of ms ++ rest) room s' s (leave ∷ more) ss _ refl (e rest p) (n _)
-    ∙ g.runs (Some 512) tt rest (leave ∷ (more ++ ss)) p
-    ∙ stops_cut 512 ms rest _ (λ r. fault rest r (more ++ ss)) (λ r. passes_skip rest r leave (more ++ ss) refl)
-    ∙ ap (λ r. stops (cut 512 ms) r rest (λ x. fault rest x (more ++ ss))) (sym ok);
+      ap (λ x. fault (x ++ rest) room (s' ∷ ss)) (tokens-cut 512 ms)
+      ∙ entered (tokens_of ms ++ rest) room s' s (leave ∷ more) ss _ refl (e rest p) (n _)
+      ∙ g.runs (Some 512) tt rest (leave ∷ (more ++ ss)) p
+      ∙ stops_cut 512 ms rest _ (λ r. fault rest r (more ++ ss)) (λ r. passes_skip rest r leave (more ++ ss) refl)
+      ∙ ap (λ r. stops (cut 512 ms) r rest (λ x. fault rest x (more ++ ss))) (sym ok);
 }
 
 -- ---- past the limit of a list

@@ -98,9 +98,13 @@ takes-post t ss f e c = λ l g a.
     let w = when-take (is_sign sign.Dot (Some t.kind)) (selector ∷ post ∷ []) ss e in
     let d = from_body (selector ∷ post ∷ []) ss f w.1 c in
     let s = d.3 in
-    let r = alone post d.1 d.4 (field l t.span s.0) (a, g) (omega arith) in
-    (r.0, r.1, r.2, r.3 ∙ append_assoc (flat_expr l) (sign_token sign.Dot t.span ∷ selector_token s.0 ∷ []) d.1
-      ∙ ap (λ x. flat_expr l ++ x) (ap (λ x. x ∷ selector_token s.0 ∷ d.1) (sym (take-sign sign.Dot t w.0)) ∙ ap (λ x. t ∷ x) (ap (λ x. x ++ d.1) s.1 ∙ sym d.2)))
+    let r = alone post d.1 d.4 (field l t.span s.0) (a, g) (omega arith) in (
+      r.0,
+      r.1,
+      r.2,
+      r.3 ∙ append_assoc (flat_expr l) (sign_token sign.Dot t.span ∷ selector_token s.0 ∷ []) d.1
+          ∙ ap (λ x. flat_expr l ++ x) (ap (λ x. x ∷ selector_token s.0 ∷ d.1) (sym (take-sign sign.Dot t w.0)) ∙ ap (λ x. t ∷ x) (ap (λ x. x ++ d.1) s.1 ∙ sym d.2)),
+    )
 
 -- ---- what stands behind a name
 
@@ -121,9 +125,12 @@ sep_taken (kind.Name n) at ss f e c p sep =
 sep_taken (kind.Sign sign.Less) at ss f e c p sep =
     let a = args_on at (one_sign sign.OpenParen ∷ in_parens expr_member 15) f (body-completed (member arg_member ∷ more arg_member 15 ∷ one_sign sign.Greater ∷ one_sign sign.OpenParen ∷ in_parens expr_member 15) ss f e c) in
     let o = sign-on sign.OpenParen (in_parens expr_member 15) a.1 a.3 in
-    let d = last_parts 15 o.1 o.3 in
-    (call p (Some (sep, a.0)) o.0 d.0 d.1, d.2, omega arith,
-      ap (λ x. flat_path p ++ sign_token sign.PathSep sep ∷ x) (ap (λ x. flat_args a.0 ++ x) (ap (λ x. sign_token sign.OpenParen o.0 ∷ x) d.3 ∙ sym o.2) ∙ sym a.2))
+    let d = last_parts 15 o.1 o.3 in (
+      call p (Some (sep, a.0)) o.0 d.0 d.1,
+      d.2,
+      omega arith,
+      ap (λ x. flat_path p ++ sign_token sign.PathSep sep ∷ x) (ap (λ x. flat_args a.0 ++ x) (ap (λ x. sign_token sign.OpenParen o.0 ∷ x) d.3 ∙ sym o.2) ∙ sym a.2),
+    )
 sep_taken k at ss f e c p sep = cc
 
 pub takes-sep_rest : (t : Token) (ss : Stack) (f : List Token) → body_of (sep_on (Some t.kind)) ≡ Some ss → Completes ss f → Is sep_rest (t ∷ f)
@@ -148,9 +155,12 @@ new_sep_taken (kind.Name n) at ss f e c word p sep =
 new_sep_taken (kind.Sign sign.Less) at ss f e c word p sep =
     let a = args_on at (one_sign sign.OpenBrace ∷ in_braces init_member 63) f (body-completed (member arg_member ∷ more arg_member 15 ∷ one_sign sign.Greater ∷ one_sign sign.OpenBrace ∷ in_braces init_member 63) ss f e c) in
     let o = sign-on sign.OpenBrace (in_braces init_member 63) a.1 a.3 in
-    let d = last_inits 63 o.1 o.3 in
-    (new_struct word p (Some (sep, a.0)) o.0 d.0 d.1, d.2, omega arith,
-      ap (λ x. word_token keyword.New word ∷ (flat_path p ++ sign_token sign.PathSep sep ∷ x)) (ap (λ x. flat_args a.0 ++ x) (ap (λ x. sign_token sign.OpenBrace o.0 ∷ x) d.3 ∙ sym o.2) ∙ sym a.2))
+    let d = last_inits 63 o.1 o.3 in (
+      new_struct word p (Some (sep, a.0)) o.0 d.0 d.1,
+      d.2,
+      omega arith,
+      ap (λ x. word_token keyword.New word ∷ (flat_path p ++ sign_token sign.PathSep sep ∷ x)) (ap (λ x. flat_args a.0 ++ x) (ap (λ x. sign_token sign.OpenBrace o.0 ∷ x) d.3 ∙ sym o.2) ∙ sym a.2),
+    )
 new_sep_taken k at ss f e c word p sep = cc
 
 pub takes-new_sep_rest : (t : Token) (ss : Stack) (f : List Token) → body_of (new_sep_on (Some t.kind)) ≡ Some ss → Completes ss f → Is new_sep_rest (t ∷ f)
@@ -174,8 +184,8 @@ operand_taken (kind.Word keyword.New) at ss f e c =
     let d = n.3 in
     let p : Path = record { first = n.0; more = [] } in
     raised 0 1 (word_token keyword.New at ∷ f) (omega arith)
-      (posted (word_token keyword.New at ∷ name_token n.0 ∷ d.0) d.1 (word_token keyword.New at ∷ f) (d.3 at p) (alone post d.1 d.4)
-        (ap (λ x. word_token keyword.New at ∷ x) (ap (λ x. name_token n.0 ∷ x) (sym d.2) ∙ sym n.2)))
+    (posted (word_token keyword.New at ∷ name_token n.0 ∷ d.0) d.1 (word_token keyword.New at ∷ f) (d.3 at p) (alone post d.1 d.4)
+    (ap (λ x. word_token keyword.New at ∷ x) (ap (λ x. name_token n.0 ∷ x) (sym d.2) ∙ sym n.2)))
 operand_taken (kind.Name n) at ss f e c =
     let d = body-completed (path_rest ∷ post ∷ []) ss f e c in
     let name : Name = record { text = n; span = at } in
@@ -185,7 +195,7 @@ operand_taken (kind.Sign sign.OpenParen) at ss f e c =
     let d = parts_on 7 (post ∷ []) f (body-completed (listed expr_member 7 sign.CloseParen ∷ one_sign sign.CloseParen ∷ post ∷ []) ss f e c) in
     let in_brackets : ExprOf 0 (sign_token sign.OpenParen at ∷ (flat_parts d.0 ++ sign_token sign.CloseParen d.1 ∷ [])) = (paren at d.0 d.1, d.3, omega arith, refl) in
     raised 0 1 (sign_token sign.OpenParen at ∷ f) (omega arith)
-      (posted (sign_token sign.OpenParen at ∷ (flat_parts d.0 ++ sign_token sign.CloseParen d.1 ∷ [])) d.2 (sign_token sign.OpenParen at ∷ f) in_brackets (alone post d.2 d.5) (ap (λ x. sign_token sign.OpenParen at ∷ x) (sym d.4)))
+    (posted (sign_token sign.OpenParen at ∷ (flat_parts d.0 ++ sign_token sign.CloseParen d.1 ∷ [])) d.2 (sign_token sign.OpenParen at ∷ f) in_brackets (alone post d.2 d.5) (ap (λ x. sign_token sign.OpenParen at ∷ x) (sym d.4)))
 operand_taken (kind.Sign sign.Minus) at ss f e c = signed_operand unary.Minus at f (alone operand f (body-completed (operand ∷ []) ss f e c))
 operand_taken (kind.Sign sign.Not) at ss f e c = signed_operand unary.Not at f (alone operand f (body-completed (operand ∷ []) ss f e c))
 operand_taken k at ss f e c = cc
@@ -208,8 +218,8 @@ tails_taken low h t ss f (Some op) q e c =
     let w = when-take (in_reach low h op) (level (height_of op - 1) ∷ tails (next_low op) h ∷ []) ss e in
     let b = reached low h op w.0 in
     λ l g fits a.
-      respelled (at_least_one h) (flat_expr l ++ sign_token (binary_sign op) t.span ∷ f) (flat_expr l ++ t ∷ f) (ap (λ x. flat_expr l ++ x ∷ f) (sym (take-operator op t q)))
-        (tails_behind low h op t.span f b.0 b.1 (from_body (level (height_of op - 1) ∷ tails (next_low op) h ∷ []) ss f w.1 c) l g fits a)
+    respelled (at_least_one h) (flat_expr l ++ sign_token (binary_sign op) t.span ∷ f) (flat_expr l ++ t ∷ f) (ap (λ x. flat_expr l ++ x ∷ f) (sym (take-operator op t q)))
+    (tails_behind low h op t.span f b.0 b.1 (from_body (level (height_of op - 1) ∷ tails (next_low op) h ∷ []) ss f w.1 c) l g fits a)
 
 pub takes-tails : (low h : ℕ) (t : Token) (ss : Stack) (f : List Token) → body_of (operated low h (operator (Some t.kind))) ≡ Some ss → Completes ss f → Is (tails low h) (t ∷ f)
 takes-tails low h t ss f e c = tails_taken low h t ss f (operator (Some t.kind)) refl e c

@@ -33,12 +33,14 @@ struct_of at f c =
     let from = sign-on sign.OpenBrace fielded c1.1 c1.4 in
     let c2 = from.3 in
     let fs = field_list_of c2.0 c2.3 in
-    let to = alone (one_sign sign.CloseBrace) c2.1 c2.4 in
-    (struct_item (record { keyword = at; name = n.0; generics = g.0; from = from.0; fields = fs.0; to = to.0 }), tt,
+    let to = alone (one_sign sign.CloseBrace) c2.1 c2.4 in (
+      struct_item (record { keyword = at; name = n.0; generics = g.0; from = from.0; fields = fs.0; to = to.0 }),
+      tt,
       ap (λ y. word_token keyword.Struct at ∷ y)
-        (behind (name_token n.0) _ n.1 f
+          (behind (name_token n.0) _ n.1 f
           (both _ _ c1.0 c1.1 n.1 g.1 (behind (sign_token sign.OpenBrace from.0) _ from.1 c1.1 (both _ _ c2.0 c2.1 from.1 fs.1 to.1 c2.2) from.2) c1.2)
-          n.2))
+          n.2),
+    )
 
 const_of : (at : Span) (f : List Token) → Completes const_rest f → ItemOf (word_token keyword.Const at ∷ f)
 const_of at f c =
@@ -49,16 +51,18 @@ const_of at f c =
     let int = word-on keyword.I64 (one_sign sign.Assign ∷ valued) colon.1 colon.3 in
     let assign = sign-on sign.Assign valued int.1 int.3 in
     let c1 = assign.3 in
-    let z = alone (one_sign sign.Semicolon) c1.1 c1.4 in
-    (const_item (record { keyword = at; name = n.0; colon = colon.0; int = int.0; assign = assign.0; value = c1.3.0; semicolon = z.0 }), tt,
+    let z = alone (one_sign sign.Semicolon) c1.1 c1.4 in (
+      const_item (record { keyword = at; name = n.0; colon = colon.0; int = int.0; assign = assign.0; value = c1.3.0; semicolon = z.0 }),
+      tt,
       ap (λ y. word_token keyword.Const at ∷ y)
-        (behind (name_token n.0) _ n.1 f
+          (behind (name_token n.0) _ n.1 f
           (behind (sign_token sign.Colon colon.0) _ colon.1 n.1
-            (behind (word_token keyword.I64 int.0) _ int.1 colon.1
-              (behind (sign_token sign.Assign assign.0) _ assign.1 int.1 (both _ _ c1.0 c1.1 assign.1 c1.3.1 z.1 c1.2) assign.2)
-              int.2)
-            colon.2)
-          n.2))
+          (behind (word_token keyword.I64 int.0) _ int.1 colon.1
+          (behind (sign_token sign.Assign assign.0) _ assign.1 int.1 (both _ _ c1.0 c1.1 assign.1 c1.3.1 z.1 c1.2) assign.2)
+          int.2)
+          colon.2)
+          n.2),
+    )
 
 -- ---- functions
 
@@ -91,17 +95,19 @@ fn_of n at f c =
     let to = sign-on sign.CloseParen ended c2.1 c2.4 in
     let c3 = to.3 in
     let o = c3.3 in
-    let b = alone (one_block n) c3.1 c3.4 in
-    (record { attributes = []; keyword = at; name = name.0; generics = g.0; from = from.0; params = ps.0; to = to.0; output = o.0; body = b.0 }, b.1,
+    let b = alone (one_block n) c3.1 c3.4 in (
+      record { attributes = []; keyword = at; name = name.0; generics = g.0; from = from.0; params = ps.0; to = to.0; output = o.0; body = b.0 },
+      b.1,
       ap (λ y. word_token keyword.Fn at ∷ y)
-        (behind (name_token name.0) _ name.1 f
+          (behind (name_token name.0) _ name.1 f
           (spelled _ _ _ _ (sign_token sign.OpenParen from.0) (sign_token sign.CloseParen to.0)
-            ∙ both _ _ c1.0 c1.1 name.1 g.1
-              (behind (sign_token sign.OpenParen from.0) _ from.1 c1.1
-                (both _ _ c2.0 c2.1 from.1 ps.1 (behind (sign_token sign.CloseParen to.0) _ to.1 c2.1 (both _ _ c3.0 c3.1 to.1 o.1 b.2 c3.2) to.2) c2.2)
-                from.2)
-              c1.2)
-          name.2))
+          ∙ both _ _ c1.0 c1.1 name.1 g.1
+          (behind (sign_token sign.OpenParen from.0) _ from.1 c1.1
+          (both _ _ c2.0 c2.1 from.1 ps.1 (behind (sign_token sign.CloseParen to.0) _ to.1 c2.1 (both _ _ c3.0 c3.1 to.1 o.1 b.2 c3.2) to.2) c2.2)
+          from.2)
+          c1.2)
+          name.2),
+    )
 
 attribute_of : (n : ℕ) (at : Span) (f : List Token) → Completes (attribute_rest n) f → Is (attributed n) (sign_token sign.Hash at ∷ f)
 attribute_of n at f c =
@@ -111,12 +117,14 @@ attribute_of n at f c =
     let to = sign-on sign.CloseBracket (attributed n ∷ []) c1.1 c1.4 in
     let g = alone (attributed n) to.1 to.3 in
     let fn : PlainFn = g.0 in
-    let made : Attribute = record { hash = at; «open» = from.0; word = word.0; span = word.1; close = to.0 } in
-    (record fn { attributes = made ∷ fn.attributes }, g.1,
+    let made : Attribute = record { hash = at; «open» = from.0; word = word.0; span = word.1; close = to.0 } in (
+      record fn { attributes = made ∷ fn.attributes },
+      g.1,
       ap (λ y. sign_token sign.Hash at ∷ y)
-        (behind (sign_token sign.OpenBracket from.0) _ from.1 f
+          (behind (sign_token sign.OpenBracket from.0) _ from.1 f
           (both (record { kind = kind.Name (attribute_name word.0); span = word.1 } ∷ []) _ c1.0 c1.1 from.1 word.2 (behind (sign_token sign.CloseBracket to.0) _ to.1 c1.1 g.2 to.2) c1.2)
-          from.2))
+          from.2),
+    )
 
 attributed_by : (n : ℕ) (k : Kind) (at : Span) (ss : Stack) (f : List Token) → body_of (attributed_at n (Some k)) ≡ Some ss → Completes ss f → Is (attributed n) (record { kind = k; span = at } ∷ f)
 attributed_by n (kind.Sign sign.Hash) at ss f e c = attribute_of n at f (from_body (attribute_rest n) ss f (take-body _ ss e) c)

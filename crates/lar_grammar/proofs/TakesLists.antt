@@ -50,9 +50,10 @@ pub takes-more : (w : Listed) (n : ℕ) (t : Token) (ss : Stack) (f : List Token
 takes-more w n t ss f e c =
     let b = when-take (is_sign sign.Comma (Some t.kind)) (further w n ∷ more w (n - 1) ∷ []) ss e in
     let d = from_body (further w n ∷ more w (n - 1) ∷ []) ss f b.1 c in
-    let r = alone (more w (n - 1)) d.1 d.4 in
-    (record { comma = t.span; tokens = d.0; one = d.3 } ∷ r.0,
-      ap (λ x. x ∷ (d.0 ++ flat_behind r.0)) (sym (take-sign sign.Comma t b.0)) ∙ ap (λ x. t ∷ (d.0 ++ x)) r.1 ∙ ap (λ x. t ∷ x) (sym d.2))
+    let r = alone (more w (n - 1)) d.1 d.4 in (
+      record { comma = t.span; tokens = d.0; one = d.3 } ∷ r.0,
+      ap (λ x. x ∷ (d.0 ++ flat_behind r.0)) (sym (take-sign sign.Comma t b.0)) ∙ ap (λ x. t ∷ (d.0 ++ x)) r.1 ∙ ap (λ x. t ∷ x) (sym d.2),
+    )
 
 pub takes-listed : (w : Listed) (n : ℕ) (s : Sign) (t : Token) (ss : Stack) (f : List Token) → body_of (expand (listed w n s) (Some t.kind)) ≡ Some ss → Completes ss f → Is (listed w n s) (t ∷ f)
 takes-listed w n s t ss f e c =
@@ -68,6 +69,6 @@ takes-angle w t ss f e c =
     let m = d.4 in
     let z = last-sign sign.Greater m.1 m.4 in
     in_angle t.span d.0 d.3 m.3.0 z.0
-      (ap (λ x. x ∷ (d.0 ++ (flat_behind m.3.0 ++ sign_token sign.Greater z.0 ∷ []))) (sym (take-sign sign.Less t b.0))
-        ∙ ap (λ x. t ∷ (d.0 ++ x)) (ap (λ x. x ++ sign_token sign.Greater z.0 ∷ []) m.3.1 ∙ ap (λ x. m.0 ++ x) (sym z.1) ∙ sym m.2)
-        ∙ ap (λ x. t ∷ x) (sym d.2))
+    (ap (λ x. x ∷ (d.0 ++ (flat_behind m.3.0 ++ sign_token sign.Greater z.0 ∷ []))) (sym (take-sign sign.Less t b.0))
+    ∙ ap (λ x. t ∷ (d.0 ++ x)) (ap (λ x. x ++ sign_token sign.Greater z.0 ∷ []) m.3.1 ∙ ap (λ x. m.0 ++ x) (sym z.1) ∙ sym m.2)
+    ∙ ap (λ x. t ∷ x) (sym d.2))

@@ -107,14 +107,16 @@ let_of at f c =
     let assign = sign-on sign.Assign valued c1.1 c1.4 in
     let c2 = assign.3 in
     let x = c2.3 in
-    let z = alone (one_sign sign.Semicolon) c2.1 c2.4 in
-    (let_stmt (record { keyword = at; name = n.0; colon = colon.0; ty = ty.0; assign = assign.0; value = x.0; semicolon = z.0 }), x.1,
+    let z = alone (one_sign sign.Semicolon) c2.1 c2.4 in (
+      let_stmt (record { keyword = at; name = n.0; colon = colon.0; ty = ty.0; assign = assign.0; value = x.0; semicolon = z.0 }),
+      x.1,
       ap (λ y. word_token keyword.Let at ∷ y)
-        (behind (name_token n.0) _ n.1 f
+          (behind (name_token n.0) _ n.1 f
           (behind (sign_token sign.Colon colon.0) _ colon.1 n.1
-            (both _ _ c1.0 c1.1 colon.1 ty.1 (behind (sign_token sign.Assign assign.0) _ assign.1 c1.1 (both _ _ c2.0 c2.1 assign.1 x.3 z.1 c2.2) assign.2) c1.2)
-            colon.2)
-          n.2))
+          (both _ _ c1.0 c1.1 colon.1 ty.1 (behind (sign_token sign.Assign assign.0) _ assign.1 c1.1 (both _ _ c2.0 c2.1 assign.1 x.3 z.1 c2.2) assign.2) c1.2)
+          colon.2)
+          n.2),
+    )
 
 -- the expression in brackets, for whichever word stands before it
 asked_of : (at : Span) (f : List Token) → Completes asked_rest f → (a : PlainAsked) × Grouped a.value × ((w : Keyword) → flat_asked w a ≡ word_token w at ∷ f)
@@ -123,12 +125,14 @@ asked_of at f c =
     let c1 = from.3 in
     let x = c1.3 in
     let to = sign-on sign.CloseParen (one_sign sign.Semicolon ∷ []) c1.1 c1.4 in
-    let z = alone (one_sign sign.Semicolon) to.1 to.3 in
-    (record { keyword = at; from = from.0; value = x.0; to = to.0; semicolon = z.0 }, x.1,
+    let z = alone (one_sign sign.Semicolon) to.1 to.3 in (
+      record { keyword = at; from = from.0; value = x.0; to = to.0; semicolon = z.0 },
+      x.1,
       λ w. ap (λ y. word_token w at ∷ y)
-        (behind (sign_token sign.OpenParen from.0) _ from.1 f
+          (behind (sign_token sign.OpenParen from.0) _ from.1 f
           (both _ _ c1.0 c1.1 from.1 x.3 (behind (sign_token sign.CloseParen to.0) _ to.1 c1.1 z.1 to.2) c1.2)
-          from.2))
+          from.2),
+    )
 
 while_of : (n : ℕ) (at : Span) (f : List Token) → Completes (while_rest n) f → StmtOf (word_token keyword.While at ∷ f)
 while_of n at f c =

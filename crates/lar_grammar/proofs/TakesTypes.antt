@@ -55,13 +55,14 @@ rest_of_tuple from t a f first g e c =
     let m = more_types_of others.3.0 in
     let end = last-sign sign.CloseParen others.1 others.4 in
     let tail : flat_types m.0 ++ sign_token sign.CloseParen end.0 ∷ [] ≡ second.1 = ap (λ x. x ++ sign_token sign.CloseParen end.0 ∷ []) (m.1 ∙ others.3.1) ∙ ap (λ x. others.0 ++ x) (sym end.1) ∙ sym others.2 in
-    let behind : flat_type second.3.0 ++ (flat_types m.0 ++ sign_token sign.CloseParen end.0 ∷ []) ≡ comma.1 = ap (λ x. x ++ (flat_types m.0 ++ sign_token sign.CloseParen end.0 ∷ [])) second.3.1 ∙ ap (λ x. second.0 ++ x) tail ∙ sym second.2 in
-    (tuple_type from first.0 comma.0 second.3.0 m.0 end.0,
+    let behind : flat_type second.3.0 ++ (flat_types m.0 ++ sign_token sign.CloseParen end.0 ∷ []) ≡ comma.1 = ap (λ x. x ++ (flat_types m.0 ++ sign_token sign.CloseParen end.0 ∷ [])) second.3.1 ∙ ap (λ x. second.0 ++ x) tail ∙ sym second.2 in (
+      tuple_type from first.0 comma.0 second.3.0 m.0 end.0,
       ap (λ x. sign_token sign.OpenParen from ∷ x)
-        (ap (λ x. x ++ sign_token sign.Comma comma.0 ∷ (flat_type second.3.0 ++ (flat_types m.0 ++ sign_token sign.CloseParen end.0 ∷ []))) first.1
+          (ap (λ x. x ++ sign_token sign.Comma comma.0 ∷ (flat_type second.3.0 ++ (flat_types m.0 ++ sign_token sign.CloseParen end.0 ∷ []))) first.1
           ∙ ap (λ x. t ∷ (a ++ sign_token sign.Comma comma.0 ∷ x)) behind
           ∙ ap (λ x. t ∷ (a ++ x)) (sym comma.2)
-          ∙ ap (λ x. t ∷ x) (sym e)))
+          ∙ ap (λ x. t ∷ x) (sym e)),
+    )
 
 tuple_rest_taken : (t : Token) (ss : Stack) (f : List Token) → Either (is_sign sign.CloseParen (Some t.kind)) [] ss (then_ (type_at (Some t.kind)) (one_sign sign.Comma ∷ one_type ∷ more type_member 6 ∷ one_sign sign.CloseParen ∷ [])) → Completes ss f → (from : Span) → TypeOf (sign_token sign.OpenParen from ∷ t ∷ f)
 tuple_rest_taken t ss f (taken b a) c from =
@@ -83,9 +84,10 @@ pub takes-segments : (t : Token) (ss : Stack) (f : List Token) → body_of (expa
 takes-segments t ss f e c =
     let w = when-take (is_sign sign.PathSep (Some t.kind)) (one_name ∷ segments ∷ []) ss e in
     let n = name-on (segments ∷ []) f (from_body (one_name ∷ segments ∷ []) ss f w.1 c) in
-    let r = alone segments n.1 n.3 in
-    (record { sep = t.span; name = n.0 } ∷ r.0,
-      ap (λ x. x ∷ name_token n.0 ∷ flat_segments r.0) (sym (take-sign sign.PathSep t w.0)) ∙ ap (λ x. t ∷ name_token n.0 ∷ x) r.1 ∙ ap (λ x. t ∷ x) (sym n.2))
+    let r = alone segments n.1 n.3 in (
+      record { sep = t.span; name = n.0 } ∷ r.0,
+      ap (λ x. x ∷ name_token n.0 ∷ flat_segments r.0) (sym (take-sign sign.PathSep t w.0)) ∙ ap (λ x. t ∷ name_token n.0 ∷ x) r.1 ∙ ap (λ x. t ∷ x) (sym n.2),
+    )
 
 -- ---- arguments, and generics
 
@@ -102,9 +104,10 @@ generic_taken (kind.Name n) at ss f e c = (generic.Ty (record { text = n; span =
 generic_taken (kind.Word keyword.Const) at ss f e c =
     let n = name-on (one_sign sign.Colon ∷ one_word keyword.I64 ∷ []) f (body-completed (one_name ∷ one_sign sign.Colon ∷ one_word keyword.I64 ∷ []) ss f e c) in
     let d = sign-on sign.Colon (one_word keyword.I64 ∷ []) n.1 n.3 in
-    let i = word-on keyword.I64 [] d.1 d.3 in
-    (generic.Const (record { keyword = at; name = n.0; colon = d.0; int = i.0 }),
-      ap (λ x. word_token keyword.Const at ∷ x) (ap (λ x. name_token n.0 ∷ sign_token sign.Colon d.0 ∷ word_token keyword.I64 i.0 ∷ x) (sym i.3) ∙ ap (λ x. name_token n.0 ∷ sign_token sign.Colon d.0 ∷ x) (sym i.2) ∙ ap (λ x. name_token n.0 ∷ x) (sym d.2) ∙ sym n.2))
+    let i = word-on keyword.I64 [] d.1 d.3 in (
+      generic.Const (record { keyword = at; name = n.0; colon = d.0; int = i.0 }),
+      ap (λ x. word_token keyword.Const at ∷ x) (ap (λ x. name_token n.0 ∷ sign_token sign.Colon d.0 ∷ word_token keyword.I64 i.0 ∷ x) (sym i.3) ∙ ap (λ x. name_token n.0 ∷ sign_token sign.Colon d.0 ∷ x) (sym i.2) ∙ ap (λ x. name_token n.0 ∷ x) (sym d.2) ∙ sym n.2),
+    )
 generic_taken k at ss f e c = cc
 
 pub takes-generic : (t : Token) (ss : Stack) (f : List Token) → body_of (generic_at (Some t.kind)) ≡ Some ss → Completes ss f → OneOf generic_member (t ∷ f)
