@@ -32,7 +32,7 @@ fn step(at: Span, b: u8) -> Span
     }
 }
 
-fn walk(from: Span, bytes: &[u8]) -> Span
+pub(crate) fn walk(from: Span, bytes: &[u8]) -> Span
     requires line { from.line + length bytes.now < 2 ^ 31 }
     requires col { from.col + length bytes.now < 2 ^ 31 }
     ensures value { result ≡ spec.walk from bytes.now }
