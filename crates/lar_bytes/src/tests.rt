@@ -10,16 +10,37 @@ fn refuse(alloc: Global, wanted: bool) -> Result<Text, OrMemory<u8>> {
 }
 
 #[test]
-fn texts_grow_at_the_end(rt: HostRuntime) -> Result<(), Fail> {
+fn texts_of_any_length(rt: HostRuntime) -> Result<(), Fail> {
     let alloc = rt.alloc();
-    let mut text = Text::new(alloc);
-    assert!(rt; text.is_empty());
-    text.append(&Text::copied(alloc, "a.")?)?;
-    text.append(&Text::from_string("larch".to_string(alloc)?))?;
-    assert_eq!(rt; text.as_str(), "a.larch");
-    assert_eq!(rt; text.len(), 7);
-    assert!(rt; text == Text::copied(alloc, "a.larch")?);
-    assert!(rt; text != Text::copied(alloc, "a.larc")?);
+    let cases = [
+        "",
+        "a",
+        "static_assertion_of_22",
+        "static_assertion_of__23",
+        "a::module::of::names::that::is::long",
+    ];
+    for text in cases {
+        assert!(rt; text.is_ascii());
+        let copy = Text::copied(alloc, text)?;
+        let moved = Text::from_string(alloc, text.to_string(alloc)?)?;
+        assert_eq!(rt; copy.as_str(), text);
+        assert_eq!(rt; copy.len(), text.len());
+        assert_eq!(rt; copy.is_empty(), text == "");
+        assert!(rt; copy == moved, "at {text}");
+        assert_eq!(rt; copy == Text::new(), text == "", "at {text}");
+    }
+    Ok(())
+}
+
+#[test]
+fn texts_in_a_row(rt: HostRuntime) -> Result<(), Fail> {
+    let alloc = rt.alloc();
+    let mut texts = Texts::new(alloc);
+    texts.push(Text::copied(alloc, "a")?)?;
+    texts.push(Text::copied(alloc, "b")?)?;
+    assert_eq!(rt; texts.len(), 2);
+    let texts = Texts::from_vec(texts.into_vec());
+    assert!(rt; matches!(texts.as_slice(), [_, b] if b.as_str() == "b"));
     Ok(())
 }
 

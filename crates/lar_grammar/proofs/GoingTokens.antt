@@ -1,6 +1,6 @@
 -- The machine goes through single tokens: signs, keywords, names and numbers.
 use Rattle.std.proofs.Common.{◌≡◌, ℤ, List, [], ◌∷◌, Some, Bool, true, false, refl, ap, rules}
-use Rattle.lar_tree.specs.declared.file.Span.{Span}
+use Rattle.lar_source.specs.declared.file.Span.{Span}
 use Rattle.lar_tree.specs.declared.keyword.Keyword.{Keyword}
 use Rattle.lar_tree.specs.declared.sign.Sign.{Sign}
 use Rattle.lar_tree.specs.declared.name.Name.{Name}

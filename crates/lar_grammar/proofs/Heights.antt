@@ -2,7 +2,7 @@
 use Rattle.std.proofs.Common.{◌≡◌, ℕ, ◌+◌, ◌-◌, ◌≤◌, ◌⊎◌, inl, inr, Bool, true, false, refl, arith}
 use Rattle.std.specs.Prelude.{◌&&◌, nat_le}
 use Rattle.std.proofs.lemmas.Bool.{leb-true}
-use Rattle.lar_tree.specs.declared.file.Span.{Span}
+use Rattle.lar_source.specs.declared.file.Span.{Span}
 use Rattle.lar_tree.specs.declared.expr.Binary.{Binary}
 use Rattle.lar_tree.specs.declared.expr.Binary.TheVariants as binary
 use Rattle.lar_tree.specs.Exprs.{PlainExpr, binary_of, height, height_of, left_height}

@@ -1,6 +1,6 @@
 -- Each operand is fixed by its tokens, and so is each expression.
 use Rattle.std.proofs.Common.{◌≡◌, ℤ, List, [], ◌∷◌, ◌++◌, Option, Some, None, refl, sym, ap, ◌∙◌, append_assoc}
-use Rattle.lar_tree.specs.declared.file.Span.{Span}
+use Rattle.lar_source.specs.declared.file.Span.{Span}
 use Rattle.lar_tree.specs.declared.sign.Sign.TheVariants as sign
 use Rattle.lar_tree.specs.declared.token.Token.{Token}
 use Rattle.lar_tree.specs.declared.name.Path.{Path}

@@ -1,7 +1,7 @@
 -- A grouped expression taken apart into operands, fields and signs, and put together again.
 use Rattle.std.proofs.Common.{◌≡◌, ℕ, ◌+◌, ◌≤◌, List, [], ◌∷◌, ◌++◌, Option, Some, None, if◌then◌else◌, nat_lt, refl, sym, ap, ◌∙◌, append_assoc, append-nil, arith}
 use Rattle.std.proofs.lemmas.Bool.{le-ltb, lt-ltb}
-use Rattle.lar_tree.specs.declared.file.Span.{Span}
+use Rattle.lar_source.specs.declared.file.Span.{Span}
 use Rattle.lar_tree.specs.declared.expr.Selector.{Selector}
 use Rattle.lar_tree.specs.declared.expr.Unary.{Unary}
 use Rattle.lar_tree.specs.declared.expr.Binary.{Binary}

@@ -1,6 +1,6 @@
 -- A type and what follows it are fixed by their tokens.
 use Rattle.std.proofs.Common.{◌≡◌, ℤ, List, [], ◌∷◌, ◌++◌, Option, Some, None, Bool, true, false, refl, sym, ap, ◌∙◌, subst, append_assoc}
-use Rattle.lar_tree.specs.declared.file.Span.{Span}
+use Rattle.lar_source.specs.declared.file.Span.{Span}
 use Rattle.lar_tree.specs.declared.sign.Sign.{Sign}
 use Rattle.lar_tree.specs.declared.sign.Sign.TheVariants as sign
 use Rattle.lar_tree.specs.declared.token.Kind.{Kind}

@@ -1,6 +1,6 @@
 -- One symbol of the stack: what it does to the fault.
 use Rattle.std.proofs.Common.{◌≡◌, List, [], ◌∷◌, ◌++◌, Option, Some, None, Bool, true, false, refl, ap, ◌∙◌, subst, inl, inr, ◌⊎◌, append_assoc, if◌then◌else◌}
-use Rattle.lar_tree.specs.declared.file.Span.{Span}
+use Rattle.lar_source.specs.declared.file.Span.{Span}
 use Rattle.lar_tree.specs.declared.token.Kind.{Kind}
 use Rattle.lar_tree.specs.declared.token.Token.{Token}
 use Rattle.lar_grammar.specs.Looks.{look}

@@ -3,7 +3,7 @@ use Rattle.std.proofs.Common.{◌≡◌, ℕ, ℤ, List, [], ◌∷◌, ◌++◌
 use Rattle.std.specs.Prelude.{is_some}
 use Rattle.std.specs.Str.{bytes_eq}
 use Rattle.std.proofs.lemmas.Slice.Eq.{bytes_eq-Decides}
-use Rattle.lar_tree.specs.declared.file.Span.{Span}
+use Rattle.lar_source.specs.declared.file.Span.{Span}
 use Rattle.lar_tree.specs.declared.keyword.Keyword.{Keyword}
 use Rattle.lar_tree.specs.declared.sign.Sign.{Sign}
 use Rattle.lar_tree.specs.declared.sign.Sign.TheVariants as sign

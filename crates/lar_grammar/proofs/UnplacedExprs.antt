@@ -1,7 +1,7 @@
 -- The tokens of a type or an expression without its places are its tokens, each without its place; and it stays grouped.
 use Rattle.std.proofs.Common.{◌≡◌, List, [], ◌∷◌, map, Some, None, option_map, refl, ap, arith}
 use Rattle.std.proofs.lemmas.List.{map-append}
-use Rattle.lar_tree.specs.declared.file.Span.{Span}
+use Rattle.lar_source.specs.declared.file.Span.{Span}
 use Rattle.lar_tree.specs.declared.sign.Sign.TheVariants as sign
 use Rattle.lar_tree.specs.declared.token.Token.{Token}
 use Rattle.lar_tree.specs.declared.expr.Selector.{Selector}

@@ -1,6 +1,6 @@
 -- What a tree is without its places: each place is set to one and the same, and all else stays.
 use Rattle.std.specs.Prelude.{map, option_map}
-use Rattle.lar_tree.specs.declared.file.Span.{Span}
+use Rattle.lar_source.specs.declared.file.Span.{Span}
 use Rattle.lar_tree.specs.declared.name.Name.{Name}
 use Rattle.lar_tree.specs.declared.name.Path.{Path}
 use Rattle.lar_tree.specs.declared.name.Segment.{Segment}

@@ -1,6 +1,6 @@
 -- From one part of a list or a path to the next, at a parser.
 use Rattle.std.proofs.Common.{◌≡◌, ℕ, ◌-◌, ◌≤◌, List, [], ◌∷◌, ◌++◌, Some, true, false, map, refl, sym, ap, ◌∙◌, subst, append_assoc, append-nil, arith, Ok, Bool}
-use Rattle.lar_tree.specs.declared.file.Span.{Span}
+use Rattle.lar_source.specs.declared.file.Span.{Span}
 use Rattle.lar_tree.specs.declared.sign.Sign.{Sign}
 use Rattle.lar_tree.specs.declared.sign.Sign.TheVariants as sign
 use Rattle.lar_tree.specs.declared.token.Kind.TheVariants as kind

@@ -1,6 +1,6 @@
 -- What items spell.
 use Rattle.std.proofs.Common.{◌≡◌, List, [], ◌∷◌, ◌++◌, Option, option_map, Some, None, refl, sym, ap, ◌∙◌, subst, append_assoc, append-nil}
-use Rattle.lar_tree.specs.declared.file.Span.{Span}
+use Rattle.lar_source.specs.declared.file.Span.{Span}
 use Rattle.lar_tree.specs.declared.name.Name.{Name}
 use Rattle.lar_tree.specs.declared.commas.Commas.{Commas}
 use Rattle.lar_tree.specs.declared.keyword.Keyword.TheVariants as keyword

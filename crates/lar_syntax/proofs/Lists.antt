@@ -1,6 +1,6 @@
 -- Lists with commas, and paths: one member more.
 use Rattle.std.proofs.Common.{◌≡◌, ℕ, ◌-◌, ◌≤◌, List, [], ◌∷◌, ◌++◌, Some, true, refl, sym, ap, ◌∙◌, append_assoc, append-nil, map, Ok}
-use Rattle.lar_tree.specs.declared.file.Span.{Span}
+use Rattle.lar_source.specs.declared.file.Span.{Span}
 use Rattle.lar_tree.specs.declared.name.Name.{Name}
 use Rattle.lar_tree.specs.declared.name.Segment.{Segment}
 use Rattle.lar_tree.specs.declared.commas.Commas.{Commas}

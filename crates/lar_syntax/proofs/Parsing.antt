@@ -3,7 +3,7 @@ use Rattle.std.proofs.Common.{◌≡◌, ℕ, List, [], ◌∷◌, ◌++◌, len
 use Rattle.std.proofs.Math.Seq.{drop-append_seam}
 use Rattle.lar_tree.specs.declared.item.Item.{Item}
 use Rattle.lar_tree.specs.declared.token.Token.{Token}
-use Rattle.lar_tree.specs.Diagnostic.{Diagnostic}
+use Rattle.lar_source.specs.Diagnostic.{Diagnostic}
 use Rattle.lar_tree.specs.Items.{GroupedItems}
 use Rattle.lar_tree.specs.ItemView.{items_view}
 use Rattle.lar_tree.specs.Programs.{Spells, IsFirstFault}

@@ -1,6 +1,6 @@
 -- What types spell, and how they begin.
 use Rattle.std.proofs.Common.{◌≡◌, ℕ, List, [], ◌∷◌, ◌++◌, Some, refl, sym, ap, ◌∙◌, append_assoc}
-use Rattle.lar_tree.specs.declared.file.Span.{Span}
+use Rattle.lar_source.specs.declared.file.Span.{Span}
 use Rattle.lar_tree.specs.declared.commas.Commas.{Commas}
 use Rattle.lar_tree.specs.declared.commas.Member.{Member}
 use Rattle.lar_tree.specs.declared.sign.Sign.TheVariants as sign

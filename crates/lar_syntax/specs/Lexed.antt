@@ -1,10 +1,10 @@
 -- The tokens of a file, or the diagnostic of the first byte at which none can be read.
 use Rattle.std.specs.Prelude.{ℕ, zero, suc, ◌+◌, ◌-◌, ◌/◌, ◌%◌, ◌==◌, nat_lt, if◌then◌else◌, List, [], ◌∷◌, ◌++◌, fold, Result, Ok, Err, codes}
 use Rattle.lar_tree.specs.declared.token.Token.{Token}
-use Rattle.lar_tree.specs.declared.file.Span.{Span}
-use Rattle.lar_tree.specs.declared.code.Code.{Code}
-use Rattle.lar_tree.specs.declared.code.Code.TheVariants.{UnexpectedByte, PastLimit}
-use Rattle.lar_tree.specs.Diagnostic.{Diagnostic}
+use Rattle.lar_source.specs.declared.file.Span.{Span}
+use Rattle.lar_source.specs.declared.code.Code.{Code}
+use Rattle.lar_source.specs.declared.code.Code.TheVariants.{UnexpectedByte, PastLimit}
+use Rattle.lar_source.specs.Diagnostic.{Diagnostic}
 use Rattle.lar_syntax.specs.declared.front.Fault.{Fault}
 use Rattle.lar_syntax.specs.declared.front.Fault.TheVariants.{Unexpected, NameTooLong, NumberTooLarge}
 use Rattle.lar_syntax.specs.declared.front.Front.{Front}

@@ -2,12 +2,12 @@
 use Rattle.std.specs.Prelude.{ℕ, ◌≡◌, List, [], ◌∷◌, drop, Result, Ok, Err}
 use Rattle.lar_bytes.specs.declared.memory.OrMemory.{OrMemory}
 use Rattle.lar_bytes.specs.declared.memory.OrMemory.TheVariants.{Refused, Memory}
-use Rattle.lar_tree.specs.declared.code.Code.TheVariants.{SyntaxError}
-use Rattle.lar_tree.specs.declared.file.File.{File}
-use Rattle.lar_tree.specs.declared.file.Span.{Span}
+use Rattle.lar_source.specs.declared.code.Code.TheVariants.{SyntaxError}
+use Rattle.lar_source.specs.declared.file.File.{File}
+use Rattle.lar_source.specs.declared.file.Span.{Span}
 use Rattle.lar_tree.specs.declared.item.Tree.{Tree}
 use Rattle.lar_tree.specs.declared.token.Token.{Token}
-use Rattle.lar_tree.specs.Diagnostic.{Diagnostic}
+use Rattle.lar_source.specs.Diagnostic.{Diagnostic}
 use Rattle.lar_tree.specs.ItemView.{tree_view}
 use Rattle.lar_tree.specs.Programs.{Spells, IsFirstFault}
 use Rattle.lar_syntax.specs.Lexed.{walk, beginning}

@@ -61,7 +61,7 @@ fn hex_byte(alloc: Global, b: u8) -> Result<Text, AllocError>
     let mut digits = String::new(alloc);
     digits.push(hex_digit(b / 16) as char)?;
     digits.push(hex_digit(b % 16) as char)?;
-    Ok(Text::from_string(digits))
+    Text::from_string(alloc, digits)
 }
 
 // What the text of a fault's diagnostic names.

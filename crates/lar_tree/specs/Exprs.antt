@@ -12,7 +12,7 @@
 --           | Path [ [ "::" "<" Args ">" ] "(" [ Expr { "," Expr } ] ")" ]
 --     Init  = NAME ":" Expr
 use Rattle.std.specs.Prelude.{ℕ, ℤ, List, [], ◌∷◌, ◌++◌, ◌+◌, ◌≤◌, Option}
-use Rattle.lar_tree.specs.declared.file.Span.{Span}
+use Rattle.lar_source.specs.declared.file.Span.{Span}
 use Rattle.lar_tree.specs.declared.keyword.Keyword.TheVariants as keyword
 use Rattle.lar_tree.specs.declared.sign.Sign.{Sign}
 use Rattle.lar_tree.specs.declared.sign.Sign.TheVariants as sign

@@ -6,7 +6,7 @@
 --           | "static_assert" "(" Expr ")" ";" | Expr [ "=" Expr ] ";"
 --     If    = "if" Expr Block [ "else" ( Block | If ) ]
 use Rattle.std.specs.Prelude.{List, [], ◌∷◌, ◌++◌, Option, Some, None}
-use Rattle.lar_tree.specs.declared.file.Span.{Span}
+use Rattle.lar_source.specs.declared.file.Span.{Span}
 use Rattle.lar_tree.specs.declared.keyword.Keyword.{Keyword}
 use Rattle.lar_tree.specs.declared.keyword.Keyword.TheVariants as keyword
 use Rattle.lar_tree.specs.declared.sign.Sign.TheVariants as sign

@@ -26,7 +26,7 @@ fn shown(alloc: Global, kinds: &[Kind]) -> Result<String, AllocError> {
 
 fn spells(alloc: Global, items: Items<Item>, wanted: &str) -> Result<bool, AllocError> {
     let tree = Tree {
-        file: Text::new(alloc),
+        file: Text::new(),
         items,
     };
     let kinds = spell_tree(alloc, &tree)?;
@@ -43,7 +43,7 @@ fn name(alloc: Global, text: &str) -> Result<Name, AllocError> {
     let text = if text.is_ascii() {
         Text::copied(alloc, text)?
     } else {
-        Text::new(alloc)
+        Text::new()
     };
     Ok(Name { text, span: AT })
 }
@@ -474,7 +474,7 @@ fn deep_trees(rt: HostRuntime) -> Result<(), Fail> {
     let mut items = Items::new(alloc);
     items.push(Item::fn_item(function(alloc, "f", body)?))?;
     let tree = Tree {
-        file: Text::new(alloc),
+        file: Text::new(),
         items,
     };
     let kinds = spell_tree(alloc, &tree)?;

@@ -3,7 +3,7 @@ use Rattle.std.specs.Prelude.{refl, ℕ, ◌&&◌, Bool, true, not, List, [], �
 use Rattle.std.specs.List.{list_any}
 use Rattle.std.specs.FinMap.{empty, insert}
 use Rattle.std.specs.Str.{bytes_eq}
-use Rattle.lar_tree.specs.declared.file.File.{File}
+use Rattle.lar_source.specs.declared.file.File.{File}
 use Rattle.outside.specs.CallsState.{CallsState}
 use Rattle.std.specs.Coded.{Coded, code_by, coded×, coded_list, coded_ℕ}
 use Rattle.outside.specs.Held.{Held, coded_held}

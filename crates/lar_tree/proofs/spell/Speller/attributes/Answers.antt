@@ -1,6 +1,6 @@
 use Rattle.std.proofs.Common.{get_or, refl, arith}
 use Rattle.std.proofs.lemmas.List.{drop_more}
-use Rattle.lar_tree.specs.declared.file.Span.{Span}
+use Rattle.lar_source.specs.declared.file.Span.{Span}
 use Rattle.lar_tree.specs.declared.item.Attribute.{Attribute}
 use Rattle.lar_tree.specs.declared.item.AttributeWord.TheVariants.{Inline}
 use Rattle.lar_tree.specs.Items.{flat_attribute, flat_attributes}

@@ -1,8 +1,8 @@
--- The table of diagnostics: a number and a text for each. A part in capitals of a text is the place of an argument.
+-- The table of diagnostics: a number and a text for each. Each part in capitals of a text is the place of an argument.
 use Rattle.std.specs.Prelude.{ℕ, ◌+◌, ◌/◌, ◌%◌, Bool, true, false, if◌then◌else◌, List, [], ◌∷◌, ◌++◌, codes}
 use Rattle.std.specs.Char.{is_ascii_uppercase}
-use Rattle.lar_tree.specs.declared.code.Code.{Code}
-use Rattle.lar_tree.specs.declared.code.Code.TheVariants.{UnexpectedByte, SyntaxError, DefinedTwice, UnknownName, WrongType, WrongCount, NoSuchPlace, NestedTooDeep, NoLawfulMain, PastLimit, MayEndWithoutValue, ArgumentTooLarge, TooManyInstances, AssertionFalse, AssertionTraps, TooManySlots, TooMuchCode, ImageTooLarge}
+use Rattle.lar_source.specs.declared.code.Code.{Code}
+use Rattle.lar_source.specs.declared.code.Code.TheVariants.{UnexpectedByte, SyntaxError, DefinedTwice, UnknownName, WrongType, WrongCount, NoSuchPlace, NestedTooDeep, NoLawfulMain, PastLimit, MayEndWithoutValue, ArgumentTooLarge, TooManyInstances, AssertionFalse, AssertionTraps, TooManySlots, TooMuchCode, ImageTooLarge}
 
 -- a line of the table
 pub record Row : Type 0 where
@@ -26,17 +26,17 @@ row TooManyInstances = record { number = 21; text = codes "more than 65536 insta
 row AssertionFalse = record { number = 30; text = codes "static assertion is false in SYMBOL" }
 row AssertionTraps = record { number = 31; text = codes "static assertion traps in SYMBOL" }
 row TooManySlots = record { number = 32; text = codes "more than 255 slots in SYMBOL" }
-row TooMuchCode = record { number = 33; text = codes "more than 65535 code bytes in SYMBOL" }
+row TooMuchCode = record { number = 33; text = codes "more than 16777216 code bytes in SYMBOL" }
 row ImageTooLarge = record { number = 40; text = codes "image over 67108864 bytes" }
 
 -- E and the number in two digits
 abbrev pub code_name : Code → List ℕ
 code_name c = 69 ∷ (48 + (row c).number / 10) ∷ (48 + (row c).number % 10) ∷ []
 
--- how many parts in capitals a text has, from behind a capital or from elsewhere on
+-- how many parts in capitals a text has; `inside` says that a part has begun before it
 abbrev pub parts : Bool → List ℕ → ℕ
-parts behind [] = 0
-parts behind (b ∷ bs) = if is_ascii_uppercase b then (if behind then parts true bs else 1 + parts true bs) else parts false bs
+parts inside [] = 0
+parts inside (b ∷ bs) = if is_ascii_uppercase b then (if inside then parts true bs else 1 + parts true bs) else parts false bs
 
 abbrev pub arity : Code → ℕ
 arity c = parts false (row c).text
@@ -52,7 +52,7 @@ others (a ∷ rest) = rest
 
 -- the text with an argument in the place of each part in capitals, in order
 abbrev pub filled : Bool → List ℕ → List (List ℕ) → List ℕ
-filled behind [] args = []
-filled behind (b ∷ bs) args =
-    if is_ascii_uppercase b then (if behind then filled true bs args else first args ++ filled true bs (others args))
+filled inside [] args = []
+filled inside (b ∷ bs) args =
+    if is_ascii_uppercase b then (if inside then filled true bs args else first args ++ filled true bs (others args))
     else b ∷ filled false bs args

@@ -1,5 +1,5 @@
 ghost use Rattle.std.specs.Prelude.{◌≡◌, ◌<◌};
-ghost use Rattle.lar_tree.specs.Code.{arity, row};
+ghost use Rattle.lar_source.specs.Code.{arity, row};
 
 /// What a diagnostic says. Its text has parts in capitals, for which its arguments stand.
 #[derive(Clone, Copy, Debug, PartialEq, Eq)]
@@ -26,7 +26,7 @@ pub enum Code {
 }
 
 impl Code {
-    /// The number that stands behind E.
+    /// The number that stands after the E.
     pub fn number(self) -> u8
         ensures number { result ≡ (row self).number }
         ensures two_digits { result < 100 }
@@ -74,7 +74,7 @@ impl Code {
             Code::AssertionFalse => "static assertion is false in SYMBOL",
             Code::AssertionTraps => "static assertion traps in SYMBOL",
             Code::TooManySlots => "more than 255 slots in SYMBOL",
-            Code::TooMuchCode => "more than 65535 code bytes in SYMBOL",
+            Code::TooMuchCode => "more than 16777216 code bytes in SYMBOL",
             Code::ImageTooLarge => "image over 67108864 bytes",
         }
     }

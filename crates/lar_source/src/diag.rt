@@ -5,8 +5,8 @@
 //! diagnostic; the command line writes it.
 
 ghost use Rattle.std.specs.Prelude.{◌≡◌, ◌∷◌, ◌++◌, [], false, length, string_bytes, IfOk, OnOk, OnErr};
-ghost use Rattle.lar_tree.specs.Code.{arity, code_name, filled, row};
-ghost use Rattle.lar_tree.specs.Diagnostic.{line_of, place_text};
+ghost use Rattle.lar_source.specs.Code.{arity, code_name, filled, row};
+ghost use Rattle.lar_source.specs.Diagnostic.{line_of, place_text};
 
 use crate::{Bytes, Code, Text, Texts};
 use std::alloc::{AllocError, Global};
@@ -23,7 +23,7 @@ pub struct Diag {
 }
 
 impl Model for Diag {
-    ghost use Rattle.lar_tree.specs.Diagnostic.{Diagnostic, IsDiagnostic};
+    ghost use Rattle.lar_source.specs.Diagnostic.{Diagnostic, IsDiagnostic};
 
     ghost Value = { Diagnostic };
 
@@ -50,18 +50,18 @@ fn put_text(text: &[u8], args: &[Text], out: &mut Bytes) -> Result<(), AllocErro
 {
     let mut left = text;
     let mut rest = args;
-    let mut behind = false;
+    let mut inside = false;
     while let [b, after @ ..] = left {
         let capital = b.is_ascii_uppercase();
         if !capital {
             out.push(*b)?;
-        } else if !behind {
+        } else if !inside {
             if let [first, others @ ..] = rest {
                 out.append(first.as_str().as_bytes())?;
                 rest = others;
             }
         }
-        behind = capital;
+        inside = capital;
         left = after;
     }
     Ok(())
@@ -82,6 +82,7 @@ impl Diag {
         }
     }
 
+    /// What the fault is.
     pub fn code(&self) -> Code
         ensures { result ≡ self.now.code }
     {
@@ -95,12 +96,14 @@ impl Diag {
         &self.file
     }
 
+    /// The line, from 1.
     pub fn line(&self) -> u32
         ensures { result ≡ self.now.line }
     {
         self.line
     }
 
+    /// The column in bytes, from 1.
     pub fn col(&self) -> u32
         ensures { result ≡ self.now.col }
     {

@@ -1,8 +1,8 @@
 -- What a diagnostic says, and its line.
 use Rattle.std.specs.Prelude.{ℕ, ◌≡◌, false, List, [], ◌∷◌, ◌++◌, length, codes}
 use Rattle.std.specs.Fmt.{decimal}
-use Rattle.lar_tree.specs.declared.code.Code.{Code}
-use Rattle.lar_tree.specs.Code.{row, code_name, arity, filled}
+use Rattle.lar_source.specs.declared.code.Code.{Code}
+use Rattle.lar_source.specs.Code.{row, code_name, arity, filled}
 
 pub record Diagnostic : Type 0 where
   pub code : Code
