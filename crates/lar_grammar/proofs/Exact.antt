@@ -5,7 +5,8 @@ use Rattle.lar_tree.specs.declared.token.Token.{Token}
 use Rattle.lar_tree.specs.Items.{PlainItems, GroupedItems, flat_items}
 use Rattle.lar_tree.specs.Marks.{Marked, un, unmarked, marked_program}
 use Rattle.lar_tree.specs.Programs.{Spells, Begins, IsFirstFault}
-use Rattle.lar_tree.proofs.MarkedTokens.{tokens_of, tokens-append, tokens-unmarked, tokens-items}
+use Rattle.lar_tree.specs.Marks.{tokens_of}
+use Rattle.lar_tree.proofs.MarkedTokens.{tokens-append, tokens-unmarked, tokens-items}
 use Rattle.lar_tree.proofs.MarkedTokens as marked_tokens
 use Rattle.lar_grammar.specs.Symbols.{program}
 use Rattle.lar_grammar.specs.Machine.{fault}

@@ -18,7 +18,7 @@ use Rattle.lar_tree.specs.Spelling.{sign_token, word_token, number_token, name_t
 use Rattle.lar_tree.specs.Types.{angle_args}
 use Rattle.lar_tree.specs.Exprs.{PlainTurbofish, PlainExpr, number, truth, untruth, paren, new_struct, path, call, field, unary_of, binary_of, PlainParts, no_parts, parts, MoreParts, last_part, next_part, PlainInits, no_inits, inits, MoreInits, last_init, next_init, binary_sign, selector_token, height_of, left_height, height, Grouped, GroupedParts, GroupedMoreParts, GroupedInits, GroupedMoreInits}
 use Rattle.lar_tree.specs.Marks.{Marked, un, unmarked, over, marked_option, marked_turbofish, marked_expr, marked_parts, marked_more_parts, marked_inits, marked_more_inits, outermost}
-use Rattle.lar_tree.proofs.MarkedTokens.{tokens_of}
+use Rattle.lar_tree.specs.Marks.{tokens_of}
 use Rattle.lar_grammar.specs.Looks.{Look, look, is_sign}
 use Rattle.lar_grammar.specs.Symbols.{expr_member, init_member, arg_member, Symbol, one_sign, one_name, member, more, listed, level, operand, tails, post, selector, path_rest, sep_rest, new_rest, new_sep_rest, outer_expr, leave, Stack, skip, fail, then_}
 use Rattle.lar_grammar.specs.Moves.{expand, in_parens, in_braces, operand_at, next_low, whole_at}

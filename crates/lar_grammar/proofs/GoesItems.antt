@@ -19,8 +19,8 @@ use Rattle.lar_tree.specs.declared.item.Generic.TheVariants as generic
 use Rattle.lar_tree.specs.Spelling.{sign_token, word_token, number_token, name_token, flat_minus}
 use Rattle.lar_tree.specs.Items.{PlainField, PlainStruct, PlainOutput, PlainFn, PlainItem, module_item, struct_item, const_item, fn_item, PlainItems, no_items, items, attribute_name, flat_attributes, flat_const, flat_items, GroupedItem, GroupedItems}
 use Rattle.lar_tree.specs.Stmts.{GroupedBlock}
-use Rattle.lar_tree.specs.Marks.{Marked, un, unmarked, over, marked_option, marked_members, marked_commas, marked_name, marked_generic, marked_angled, marked_field, marked_output, marked_struct, marked_item, marked_items, marked_program}
-use Rattle.lar_tree.proofs.MarkedTokens.{tokens_of, tokens-items}
+use Rattle.lar_tree.specs.Marks.{tokens_of, Marked, un, unmarked, over, marked_option, marked_members, marked_commas, marked_name, marked_generic, marked_angled, marked_field, marked_output, marked_struct, marked_item, marked_items, marked_program}
+use Rattle.lar_tree.proofs.MarkedTokens.{tokens-items}
 use Rattle.lar_grammar.specs.Looks.{Look, is_sign}
 use Rattle.lar_grammar.specs.Symbols.{Listed, field_member, generic_member, name_member, Symbol, one_sign, signed_number, attribute_word, member, listed, angle, one_block, body, module_items, attributed, output, program, Stack, skip, fail, take, then_}
 use Rattle.lar_grammar.specs.Moves.{expand, struct_rest, const_rest, fn_rest, attribute_rest, item_at}

@@ -8,7 +8,7 @@ use Rattle.lar_tree.specs.declared.token.Kind.TheVariants as kind
 use Rattle.lar_tree.specs.declared.token.Token.{Token}
 use Rattle.lar_tree.specs.Spelling.{sign_token}
 use Rattle.lar_tree.specs.Marks.{Marked, un, over}
-use Rattle.lar_tree.proofs.MarkedTokens.{tokens_of}
+use Rattle.lar_tree.specs.Marks.{tokens_of}
 use Rattle.lar_grammar.specs.Looks.{Look, look, is_sign, is_name}
 use Rattle.lar_grammar.specs.Symbols.{Listed, expr_member, init_member, field_member, arg_member, generic_member, name_member, type_member, one_sign, member, further, more, listed, angle, tails, Stack, Move, skip, fail, take, enter, then_, when}
 use Rattle.lar_grammar.specs.Moves.{expand, operand_at, type_at, arg_at, generic_at, climb, angle_rest}

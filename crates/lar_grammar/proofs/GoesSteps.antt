@@ -1,8 +1,7 @@
 -- Steps where no outermost expression is open: a token or a part, and then the rest.
 use Rattle.std.proofs.Common.{◌≡◌, List, [], ◌∷◌, ◌++◌, Some, true, refl, sym, ap, subst, append_assoc, append-nil}
 use Rattle.lar_tree.specs.declared.token.Token.{Token}
-use Rattle.lar_tree.specs.Marks.{Marked, un}
-use Rattle.lar_tree.proofs.MarkedTokens.{tokens_of}
+use Rattle.lar_tree.specs.Marks.{tokens_of, Marked, un}
 use Rattle.lar_grammar.specs.Looks.{Look, look}
 use Rattle.lar_grammar.specs.Symbols.{Symbol, Stack, Move, skip, fail, take, enter, then_}
 use Rattle.lar_grammar.specs.Moves.{expand}

@@ -10,7 +10,8 @@ use Rattle.lar_tree.specs.Spelling.{sign_token}
 use Rattle.lar_tree.specs.Exprs.{PlainExpr, Grouped}
 use Rattle.lar_tree.specs.Stmts.{PlainLet, PlainAsked, PlainSetting, PlainStmt, let_stmt, if_stmt, while_stmt, return_stmt, print_stmt, assert_stmt, expr_stmt, PlainBlock, block, PlainStmts, no_stmts, stmts, PlainIf, fork, PlainElse, no_else, else_block, else_if, IfThere, GroupedStmt, GroupedBlock, GroupedStmts, GroupedIf, GroupedElse}
 use Rattle.lar_tree.specs.Marks.{Marked, un, over, marked_option, marked_expr, outermost, marked_let, marked_asked, marked_setting, marked_stmt, marked_block, marked_stmts, marked_if, marked_else}
-use Rattle.lar_tree.proofs.MarkedTokens.{tokens_of, tokens-cut}
+use Rattle.lar_tree.specs.Marks.{tokens_of}
+use Rattle.lar_tree.proofs.MarkedTokens.{tokens-cut}
 use Rattle.lar_grammar.specs.Looks.{Look, look, same_word, is_word}
 use Rattle.lar_grammar.specs.Symbols.{Symbol, one_sign, outer_expr, leave, return_rest, setting_rest, one_block, statements, else_part, branch, Stack, Move, skip, fail, take, enter, then_, entering, when}
 use Rattle.lar_grammar.specs.Moves.{expand, operand_at, climb, whole_at, statement_at, block_at, if_rest, asked_rest}

@@ -12,7 +12,7 @@ use Rattle.lar_tree.specs.declared.ty.SignedNumber.{SignedNumber}
 use Rattle.lar_tree.specs.Spelling.{sign_token, word_token, number_token, name_token, flat_segments, flat_path, flat_minus, flat_signed}
 use Rattle.lar_tree.specs.Types.{PlainTy, int_type, bool_type, unit_type, tuple_type, named_type, generic_type, MoreTypes, last_type, next_type, angle_args, PlainArg, type_arg, number_arg, MoreArgs, last_arg, next_arg}
 use Rattle.lar_tree.specs.Marks.{Marked, un, unmarked, over, marked_type, marked_types, marked_arg, marked_more_args, outermost_type}
-use Rattle.lar_tree.proofs.MarkedTokens.{tokens_of}
+use Rattle.lar_tree.specs.Marks.{tokens_of}
 use Rattle.lar_grammar.specs.Looks.{Look, look, is_sign}
 use Rattle.lar_grammar.specs.Symbols.{arg_member, type_member, one_sign, one_name, one_number, member, more, angle, one_type, tuple_rest, segments, outer_type, Stack, skip, fail}
 use Rattle.lar_grammar.specs.Moves.{type_at, arg_at, angle_rest}

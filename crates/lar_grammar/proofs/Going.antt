@@ -2,7 +2,8 @@
 use Rattle.std.proofs.Common.{◌≡◌, ℕ, zero, suc, List, [], ◌∷◌, ◌++◌, Option, Some, None, true, false, if◌then◌else◌, refl, sym, ap, ◌∙◌, append_assoc}
 use Rattle.lar_tree.specs.declared.token.Token.{Token}
 use Rattle.lar_tree.specs.Marks.{Marked, un, over, cut}
-use Rattle.lar_tree.proofs.MarkedTokens.{tokens_of, tokens-append, tokens-cut}
+use Rattle.lar_tree.specs.Marks.{tokens_of}
+use Rattle.lar_tree.proofs.MarkedTokens.{tokens-append, tokens-cut}
 use Rattle.lar_grammar.specs.Looks.{Look, look}
 use Rattle.lar_grammar.specs.Symbols.{Listed, Symbol, further, leave, Stack, Move, skip, fail, take, enter, then_, entering}
 use Rattle.lar_grammar.specs.Moves.{expand}

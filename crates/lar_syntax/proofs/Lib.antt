@@ -1,16 +1,9 @@
-pub mod Again
-pub mod Digits
 pub mod Flow
 pub mod FlowCalls
 pub mod FlowExprs
-pub mod Grammar
 pub mod ItemSteps
 pub mod ItemTokens
 pub mod Lists
-pub mod Longest
-pub mod OneByOne
 pub mod Parsing
-pub mod Runs
 pub mod StmtSteps
-pub mod Turns
 pub mod TypeTokens

@@ -1,10 +1,5 @@
-pub mod ByFirst
-pub mod Front
-pub mod Lexed
 pub mod Parsed
-pub mod Reading
 pub mod Reads
 pub mod ReadsExprs
 pub mod ReadsItems
 pub mod ReadsStmts
-pub mod Thin

@@ -10,7 +10,7 @@ use Rattle.lar_tree.specs.declared.token.Token.{Token}
 use Rattle.lar_source.specs.Diagnostic.{Diagnostic}
 use Rattle.lar_tree.specs.ItemView.{tree_view}
 use Rattle.lar_tree.specs.Programs.{Spells, IsFirstFault}
-use Rattle.lar_syntax.specs.Lexed.{walk, beginning}
+use Rattle.lar_lexer.specs.Place.{walk, beginning}
 
 -- where the first of these tokens begins; where there is none, the end of the file
 abbrev pub place : List ℕ → List Token → Span

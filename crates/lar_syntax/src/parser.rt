@@ -18,8 +18,8 @@ mod lists;
 mod stmts;
 mod types;
 
-use crate::lexer::walk;
 use cursor::{Parser, Stop};
+use lar_lexer::walk;
 use lar_tree::{Code, Diag, File, OrMemory, Span, Text, Texts, Token, Tree};
 use std::alloc::{AllocError, Global};
 

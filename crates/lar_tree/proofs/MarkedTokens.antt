@@ -1,5 +1,5 @@
 -- The marked tokens of a tree are its tokens.
-use Rattle.std.proofs.Common.{◌≡◌, ℕ, zero, suc, ◌-◌, List, [], ◌∷◌, ◌++◌, map, Option, Some, None, refl, sym, ap, ◌∙◌}
+use Rattle.std.proofs.Common.{◌≡◌, ℕ, zero, suc, ◌-◌, List, [], ◌∷◌, ◌++◌, Option, Some, None, refl, sym, ap, ◌∙◌}
 use Rattle.std.proofs.lemmas.List.{map-append}
 use Rattle.lar_tree.specs.declared.keyword.Keyword.{Keyword}
 use Rattle.lar_tree.specs.declared.token.Token.{Token}
@@ -14,11 +14,8 @@ use Rattle.lar_tree.specs.Types.{PlainTy, int_type, bool_type, unit_type, tuple_
 use Rattle.lar_tree.specs.Exprs.{PlainTurbofish, PlainExpr, number, truth, untruth, paren, new_struct, path, call, field, unary_of, binary_of, PlainParts, no_parts, parts, MoreParts, last_part, next_part, PlainInits, no_inits, inits, MoreInits, last_init, next_init, flat_turbofish, flat_expr, flat_parts, flat_more_parts, flat_inits, flat_more_inits}
 use Rattle.lar_tree.specs.Stmts.{PlainLet, PlainAsked, PlainSetting, PlainStmt, let_stmt, if_stmt, while_stmt, return_stmt, print_stmt, assert_stmt, expr_stmt, PlainBlock, block, PlainStmts, no_stmts, stmts, PlainIf, fork, PlainElse, no_else, else_block, else_if, flat_let, flat_asked, flat_setting, flat_stmt, flat_block, flat_stmts, flat_if, flat_else}
 use Rattle.lar_tree.specs.Items.{PlainField, PlainStruct, PlainOutput, PlainFn, PlainItem, module_item, struct_item, const_item, fn_item, PlainItems, no_items, items, flat_attributes, flat_name, flat_generic, flat_angled, flat_field, flat_output, flat_struct, flat_const, flat_head, flat_item, flat_items}
-use Rattle.lar_tree.specs.Marks.{Marked, un, unmarked, over, cut, marked_option, marked_members, marked_commas, marked_type, marked_types, marked_args, marked_arg, marked_more_args, outermost_type, marked_turbofish, marked_expr, marked_parts, marked_more_parts, marked_inits, marked_more_inits, outermost, marked_let, marked_asked, marked_setting, marked_stmt, marked_block, marked_stmts, marked_if, marked_else, marked_name, marked_generic, marked_angled, marked_field, marked_output, marked_struct, marked_head, marked_item, marked_items}
+use Rattle.lar_tree.specs.Marks.{Marked, un, unmarked, tokens_of, over, cut, marked_option, marked_members, marked_commas, marked_type, marked_types, marked_args, marked_arg, marked_more_args, outermost_type, marked_turbofish, marked_expr, marked_parts, marked_more_parts, marked_inits, marked_more_inits, outermost, marked_let, marked_asked, marked_setting, marked_stmt, marked_block, marked_stmts, marked_if, marked_else, marked_name, marked_generic, marked_angled, marked_field, marked_output, marked_struct, marked_head, marked_item, marked_items}
 use Rattle.lar_tree.specs.Programs.{Spells}
-
-abbrev pub tokens_of : List Marked → List Token
-tokens_of = map (λ m. m.0)
 
 pub tokens-append : (xs ys : List Marked) → tokens_of (xs ++ ys) ≡ tokens_of xs ++ tokens_of ys
 tokens-append xs ys = map-append (λ (m : Marked). m.0) xs ys
@@ -58,7 +55,7 @@ tokens-commas : {A : Type 0} (mark : A → List Marked) (flat : A → List Token
 tokens-commas mark flat keeps n c = simp (tokens-append, keeps c.first, tokens-members mark flat keeps n c.more)
 
 mutual
-  tokens-type : (t : PlainTy) → tokens_of (marked_type t) ≡ flat_type t
+  pub tokens-type : (t : PlainTy) → tokens_of (marked_type t) ≡ flat_type t
   tokens-type (int_type at) = refl
   tokens-type (bool_type at) = refl
   tokens-type (unit_type from to) = refl
@@ -89,7 +86,7 @@ tokens-turbofish None = refl
 tokens-turbofish (Some t) = simp (tokens-args t.1)
 
 mutual
-  tokens-expr : (e : PlainExpr) → tokens_of (marked_expr e) ≡ flat_expr e
+  pub tokens-expr : (e : PlainExpr) → tokens_of (marked_expr e) ≡ flat_expr e
   tokens-expr (number n at) = refl
   tokens-expr (truth at) = refl
   tokens-expr (untruth at) = refl

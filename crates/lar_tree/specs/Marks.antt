@@ -30,6 +30,9 @@ un t = (t, false)
 abbrev pub unmarked : List Token → List Marked
 unmarked = map un
 
+abbrev pub tokens_of : List Marked → List Token
+tokens_of = map (λ m. m.0)
+
 -- where no further member or level may come, its first token is marked
 abbrev pub over : ℕ → List Marked → List Marked
 over zero [] = []

@@ -1,4 +1,6 @@
-ghost use Rattle.std.specs.Prelude.{◌≡◌, ◌∷◌, ◌++◌, [], OnOk, OnErr};
+ghost use Rattle.std.specs.Prelude.{◌≡◌, ◌∷◌, ◌++◌, [], length, slice_get, OnOk, OnErr};
+ghost use Rattle.std.specs.Option.{option_copied};
+ghost use Rattle.lar_tree.specs.PlainLists.{values};
 
 use crate::Span;
 use sqlite_items::Items;
@@ -26,6 +28,28 @@ impl<T> Commas<T> {
         Commas {
             first,
             more: Items::new(alloc),
+        }
+    }
+}
+
+impl<T> Commas<T> {
+    /// How many members there are.
+    pub fn len(&self) -> usize
+        ensures { result ≡ length (values self.now) }
+    {
+        1 + self.more.as_slice().len()
+    }
+
+    /// The member at this place, from 0.
+    pub fn get(&self, at: usize) -> Option<&T>
+        ensures { option_copied result ≡ slice_get (values self.now) at }
+    {
+        if at == 0 {
+            return Some(&self.first);
+        }
+        match self.more.get(at - 1) {
+            Some(member) => Some(&member.value),
+            None => None,
         }
     }
 }

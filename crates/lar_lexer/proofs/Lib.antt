@@ -1,0 +1,11 @@
+pub mod Again
+pub mod Counting
+pub mod Digits
+pub mod Grammar
+pub mod Kept
+pub mod Longest
+pub mod OneByOne
+pub mod Pieces
+pub mod Runs
+pub mod Sorts
+pub mod Turns

@@ -1,0 +1,9 @@
+pub mod ByFirst
+pub mod Cut
+pub mod Front
+pub mod Lawful
+pub mod Lexed
+pub mod Piece
+pub mod Place
+pub mod Reading
+pub mod Thin
