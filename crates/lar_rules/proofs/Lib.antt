@@ -1,0 +1,2 @@
+pub mod Least
+mod Worked

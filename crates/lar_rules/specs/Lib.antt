@@ -1,0 +1,14 @@
+pub mod Bodies
+pub mod Checked
+pub mod Declared
+pub mod Exprs
+pub mod Fault
+pub mod Faults
+pub mod Functions
+pub mod Generics
+pub mod Judged
+pub mod Printed
+pub mod Signatures
+pub mod Structs
+pub mod Twice
+pub mod Written

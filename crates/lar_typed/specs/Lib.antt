@@ -1,0 +1,16 @@
+pub mod Calls
+pub mod ExprView
+pub mod Exprs
+pub mod IsTyped
+pub mod Lawful
+pub mod LawfulBody
+pub mod Parts
+pub mod Paths
+pub mod SameType
+pub mod Size
+pub mod Standing
+pub mod StmtView
+pub mod Stmts
+pub mod TreeView
+pub mod Trees
+pub mod Within

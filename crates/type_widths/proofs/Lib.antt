@@ -1,0 +1,4 @@
+pub mod Dots
+pub mod Forming
+pub mod Levels
+pub mod Widths
