@@ -1,0 +1,9 @@
+pub mod Counted
+pub mod Decoder
+pub mod OneInput
+pub mod ReadBack
+pub mod ReadBackStmts
+pub mod Seen
+pub mod Views
+pub mod Worked
+pub mod Written

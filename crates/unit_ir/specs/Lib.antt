@@ -1,0 +1,9 @@
+pub mod Cost
+pub mod ExprView
+pub mod Exprs
+pub mod InRange
+pub mod Operators
+pub mod StmtView
+pub mod Stmts
+pub mod Units
+pub mod Widths

@@ -1,0 +1,6 @@
+pub mod Assertions
+pub mod Callees
+pub mod LoweredUnit
+pub mod Lowering
+pub mod Slots
+pub mod Wide

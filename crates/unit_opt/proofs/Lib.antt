@@ -1,0 +1,5 @@
+pub mod FoldInRange
+pub mod Folds
+pub mod Kept
+pub mod Lists
+pub mod Mapped
