@@ -2,7 +2,7 @@
 use Rattle.std.specs.Prelude.{ℕ, ◌≡◌, ◌⊎◌, nat_lt, if◌then◌else◌, List, length, Option, Some, None, IfSome, IsSome, ℤ, codes}
 use Rattle.std.specs.Option.{option_and_then}
 use Rattle.std.specs.FinMap.{get}
-use Rattle.lar_syntax.specs.Reading.{thin}
+use Rattle.lar_lexer.specs.Reading.{thin}
 use Rattle.object_format.specs.Image.{image_spelling}
 use Rattle.outside.specs.Counts.{Rose}
 use Rattle.outside.specs.Fronts.{AppendsFront}

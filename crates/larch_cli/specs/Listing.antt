@@ -1,34 +1,38 @@
 -- The listing of an image and of an object: for each function a line and those of its instructions.
-use Rattle.std.specs.Prelude.{◌≡◌, ℕ, zero, suc, ◌+◌, ◌<◌, ◌≤◌, Bool, true, false, List, [], ◌∷◌, ◌++◌, length, take, drop, slice_index, codes, Option, Some, None}
+use Rattle.std.specs.Prelude.{ℕ, ◌+◌, Bool, true, false, List, [], ◌∷◌, ◌++◌, length, slice_index, codes, Option, Some, None}
+use Rattle.std.specs.List.{flat_map}
 use Rattle.std.specs.Fmt.{decimal, signed_decimal}
 use Rattle.std.specs.Int.{w8, w32, w64, from_be_bytes, cast_signed}
-use Rattle.object_format.specs.Code.{IsWhole}
+use Rattle.object_format.specs.Code.{Instruction, pieces_from}
 use Rattle.object_format.specs.Image.{Linked, LinkedFn}
 use Rattle.object_format.specs.Object.{Unlinked, UnlinkedFn, body_of}
-use Rattle.object_format.specs.Opcode.{row, opcode_of}
-use Rattle.object_format.specs.Reading.{operand_of}
 use Rattle.object_format.specs.declared.opcode.Opcode.{Opcode}
-use Rattle.object_format.specs.declared.opcode.Opcode.TheVariants.{Push8, Push64, Load, Store, Pop, Add, Sub, Mul, Div, Rem, Neg, Equal, NotEqual, Less, AtMost, Greater, AtLeast, Not, Jump, JumpZero, Call, Return, Print, Trap, Dup, Nop}
+use Rattle.object_format.specs.declared.opcode.Operator.{Operator}
+use Rattle.object_format.specs.declared.opcode.Operator.TheVariants.{Add, Sub, Mul, Div, Rem, Equal, NotEqual, Less, AtMost, Greater, AtLeast}
+use Rattle.object_format.specs.declared.opcode.Opcode.TheVariants.{Push8, Push64, Load, Store, Pop, Compute, Neg, Not, Jump, JumpZero, Call, Return, Print, Trap, Dup, Nop}
 
 -- the table of names
+abbrev pub operator_name : Operator → List ℕ
+operator_name Add = codes "ADD"
+operator_name Sub = codes "SUB"
+operator_name Mul = codes "MUL"
+operator_name Div = codes "DIV"
+operator_name Rem = codes "REM"
+operator_name Equal = codes "EQ"
+operator_name NotEqual = codes "NE"
+operator_name Less = codes "LT"
+operator_name AtMost = codes "LE"
+operator_name Greater = codes "GT"
+operator_name AtLeast = codes "GE"
+
 abbrev pub name_of : Opcode → List ℕ
 name_of Push8 = codes "PUSH8"
 name_of Push64 = codes "PUSH64"
 name_of Load = codes "LOAD"
 name_of Store = codes "STORE"
 name_of Pop = codes "POP"
-name_of Add = codes "ADD"
-name_of Sub = codes "SUB"
-name_of Mul = codes "MUL"
-name_of Div = codes "DIV"
-name_of Rem = codes "REM"
+name_of (Compute operator) = operator_name operator
 name_of Neg = codes "NEG"
-name_of Equal = codes "EQ"
-name_of NotEqual = codes "NE"
-name_of Less = codes "LT"
-name_of AtMost = codes "LE"
-name_of Greater = codes "GT"
-name_of AtLeast = codes "GE"
 name_of Not = codes "NOT"
 name_of Jump = codes "JMP"
 name_of JumpZero = codes "JZ"
@@ -41,29 +45,30 @@ name_of Nop = codes "NOP"
 
 -- the operand in decimal behind a space, where there is one: signed of a push, else a number of one byte or of four
 abbrev pub operand_text : Opcode → List ℕ → List ℕ
-operand_text Push8 behind = codes " " ++ signed_decimal (cast_signed w8 (slice_index behind 0))
-operand_text Push64 behind = codes " " ++ signed_decimal (cast_signed w64 (from_be_bytes w64 (take 8 behind)))
-operand_text Load behind = codes " " ++ decimal (slice_index behind 0)
-operand_text Store behind = codes " " ++ decimal (slice_index behind 0)
-operand_text Jump behind = codes " " ++ decimal (from_be_bytes w32 (take 4 behind))
-operand_text JumpZero behind = codes " " ++ decimal (from_be_bytes w32 (take 4 behind))
-operand_text Call behind = codes " " ++ decimal (from_be_bytes w32 (take 4 behind))
-operand_text other behind = []
+operand_text Push8 operand = codes " " ++ signed_decimal (cast_signed w8 (slice_index operand 0))
+operand_text Push64 operand = codes " " ++ signed_decimal (cast_signed w64 (from_be_bytes w64 operand))
+operand_text Load operand = codes " " ++ decimal (slice_index operand 0)
+operand_text Store operand = codes " " ++ decimal (slice_index operand 0)
+operand_text Jump operand = codes " " ++ decimal (from_be_bytes w32 operand)
+operand_text JumpZero operand = codes " " ++ decimal (from_be_bytes w32 operand)
+operand_text Call operand = codes " " ++ decimal (from_be_bytes w32 operand)
+operand_text other operand = []
 
--- the line of an instruction: its offset, its name, and its operand, which begins the bytes behind
-abbrev pub instruction_line : ℕ → Option Opcode → List ℕ → List ℕ
-instruction_line offset None behind = []
-instruction_line offset (Some opcode) behind = codes "  " ++ decimal offset ++ codes " " ++ name_of opcode ++ operand_text opcode behind ++ codes "\n"
+-- the line of an instruction: its offset, its name, and its operand
+abbrev pub instruction_line : ℕ → Opcode → List ℕ → List ℕ
+instruction_line offset opcode operand = codes "  " ++ decimal offset ++ codes " " ++ name_of opcode ++ operand_text opcode operand ++ codes "\n"
 
--- the lines of code whose first byte has this offset and whose first `operand` bytes belong to the instruction before
-abbrev pub code_lines : ℕ → ℕ → List ℕ → List ℕ
-code_lines offset operand [] = []
-code_lines offset (suc k) (b ∷ bs) = code_lines (offset + 1) k bs
-code_lines offset zero (b ∷ bs) = instruction_line offset (opcode_of b) bs ++ code_lines (offset + 1) (operand_of (opcode_of b)) bs
+abbrev pub piece_line : ℕ → Option Instruction → List ℕ
+piece_line offset None = []
+piece_line offset (Some i) = instruction_line offset i.opcode i.operand
+
+-- the lines of code that begins at this offset
+abbrev pub code_lines : ℕ → List ℕ → List ℕ
+code_lines offset code = flat_map (λ p. piece_line p.offset p.instruction) (pieces_from offset code)
 
 -- what a function takes, gives, keeps in slots and has of code, the end of that line, and its instructions
 abbrev pub body_text : LinkedFn → List ℕ
-body_text f = codes "params " ++ decimal f.params ++ codes " result " ++ decimal f.result ++ codes " slots " ++ decimal f.slots ++ codes " code " ++ decimal (length f.code) ++ codes "\n" ++ code_lines 0 0 f.code
+body_text f = codes "params " ++ decimal f.params ++ codes " result " ++ decimal f.result ++ codes " slots " ++ decimal f.slots ++ codes " code " ++ decimal (length f.code) ++ codes "\n" ++ code_lines 0 f.code
 
 abbrev pub function_text : ℕ → LinkedFn → List ℕ
 function_text number f = codes "fn " ++ decimal number ++ codes " " ++ body_text f
@@ -91,10 +96,3 @@ use_line number symbol = codes "use " ++ decimal number ++ codes " " ++ symbol +
 -- the functions, and the externals with numbers that go on
 abbrev pub object_text : Unlinked → List ℕ
 object_text object = numbered unlinked_text 0 object.functions ++ numbered use_line (length object.functions) object.externals
-
--- One instruction of the code was listed, from `offset` to `end`: with the lines of what is behind it, the text is what it had to become.
-pub record ListsOne (code : List ℕ) (offset end : ℕ) (old new : List ℕ) : Type 0 where
-  pub goes_on : offset < end
-  pub within : end ≤ length code
-  pub whole : IsWhole (drop end code)
-  pub listed : new ++ code_lines end 0 (drop end code) ≡ old ++ code_lines offset 0 (drop offset code)

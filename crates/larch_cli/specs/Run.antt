@@ -1,6 +1,7 @@
 -- How the command `run` ends, and what it leaves.
 use Rattle.std.specs.Prelude.{ℕ, ◌≡◌, ◌⊎◌, List, Some, Result, Ok, Err}
-use Rattle.object_format.specs.Image.{Linked}
+use Rattle.object_format.specs.Image.{Linked, version_field}
+use Rattle.object_format.specs.Version.{version_numbered}
 use Rattle.object_format.specs.Reading.{◌>>=◌, unless, image_at}
 use Rattle.object_format.specs.declared.fault.BadFile.{BadFile}
 use Rattle.outside.specs.Counts.{Rose}
@@ -17,7 +18,7 @@ use Rattle.larch_cli.specs.declared.status.Status.TheVariants as status
 
 -- the image that the bytes spell, where it is valid, or the first fault
 abbrev pub valid_image : List ℕ → Result Linked BadFile
-valid_image bytes = image_at bytes >>= λ image. unless (image_fault image) image
+valid_image bytes = image_at bytes >>= λ image. unless (image_fault (version_numbered (version_field bytes)) image) image
 
 -- A valid image was loaded, and this is what so many steps of it give.
 pub record Gives (name : List ℕ) (steps : ℕ) (files now : FilesState) (ran : Ran) : Type 0 where

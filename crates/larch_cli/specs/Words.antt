@@ -2,7 +2,7 @@
 use Rattle.std.specs.Prelude.{ℕ, ◌≡◌, ◌++◌, ◌&&◌, ◌||◌, ◌==◌, nat_le, not, if◌then◌else◌, Bool, true, false, List, [], ◌∷◌, length, map, filter, Option, Some, None, option_map, option_and_then, codes}
 use Rattle.std.specs.List.{list_all}
 use Rattle.std.specs.Str.{bytes_eq}
-use Rattle.lar_syntax.specs.Thin.{is_digit, value_of}
+use Rattle.lar_lexer.specs.Thin.{is_digit, value_of}
 use Rattle.larch_cli.specs.Line.{Given, Line, line_of}
 use Rattle.larch_cli.specs.declared.words.Command.{Command}
 use Rattle.larch_cli.specs.declared.words.Command.TheVariants.{Build, Run, Dump, Link}

@@ -5,7 +5,7 @@
 //! and the files. Each command is a row of steps, and a step answers a value or the status that ends the command, so the order
 //! of refusals is the order of the steps.
 //!
-//! It stands on lar_syntax for the sources, object_format, symbol_link and stack_vm for objects and images, and outside for what
+//! It stands on lar_lexer for the sources, object_format, symbol_link and stack_vm for objects and images, and outside for what
 //! the world is to a contract.
 #![tactic(auto)]
 

@@ -1,4 +1,5 @@
-use super::dump_tests::{SEVEN, UNIT, check, play};
+use super::dump_tests::{UNIT, check, play};
+use super::tests::SEVEN;
 use super::*;
 use std::test::Fail;
 
@@ -18,10 +19,10 @@ const MAIN: [u8; 83] = [
 ];
 
 // GO's functions and then MAIN's; `main::main`, at place 2, calls places 3 and 0.
-const LINKED: [u8; 71] = [
-    0x4c, 0x52, 0x50, 0x58, 0, 1, 0, 0, 0, 2, 0, 0, 0, 4, 0, 0, 0, 0, 9, 1, 2, 0x15, 0, 0, 0, 1,
-    0x17, 0x16, 1, 1, 1, 0, 7, 3, 0, 1, 1, 6, 0x16, 0x18, 0, 0, 0, 0, 14, 1, 1, 0x15, 0, 0, 0, 3,
-    0x17, 0x15, 0, 0, 0, 0, 0x16, 1, 1, 1, 0, 7, 3, 0, 1, 1, 6, 0x16, 0x18,
+const LINKED: [u8; 79] = [
+    0x4c, 0x52, 0x50, 0x58, 0, 2, 0, 0, 0, 2, 0, 0, 0, 4, 0, 0, 0, 0, 0, 0, 9, 1, 2, 0x15, 0, 0, 0,
+    1, 0x17, 0x16, 1, 1, 1, 0, 0, 0, 7, 3, 0, 1, 1, 6, 0x16, 0x18, 0, 0, 0, 0, 0, 0, 14, 1, 1,
+    0x15, 0, 0, 0, 3, 0x17, 0x15, 0, 0, 0, 0, 0x16, 1, 1, 1, 0, 0, 0, 7, 3, 0, 1, 1, 6, 0x16, 0x18,
 ];
 
 // No function and no external.

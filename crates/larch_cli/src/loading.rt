@@ -1,9 +1,11 @@
 //! Files of bytes that commands read: each once and to one byte past its limit, so that a file that is too long is seen to be so. The
 //! bytes are let go as soon as they are decoded.
 
-ghost use Rattle.std.specs.Prelude.{Ok, Result};
+ghost use Rattle.std.specs.Prelude.{◌≡◌, ◌⊎◌, Ok, Result, IfOk};
 ghost use Rattle.lar_bytes.specs.Answers.{Answers};
+ghost use Rattle.object_format.specs.Image.{version_field};
 ghost use Rattle.object_format.specs.ObjectReading.{object_at};
+ghost use Rattle.object_format.specs.Reading.{image_at};
 ghost use Rattle.larch_cli.specs.Dump.{listing_at, text_of, text_of_listed};
 ghost use Rattle.larch_cli.specs.Loading.{IsBadFile, LoadEnds, ReadEnds, limited};
 ghost use Rattle.larch_cli.specs.Run.{valid_image};
@@ -12,7 +14,7 @@ ghost use Rattle.larch_cli.specs.Steps.{image_of_valid};
 use crate::dump::Listed;
 use crate::{Files, Read, Status};
 use lar_bytes::{Bytes, OrMemory, Text};
-use object_format::{BadFile, Object, What, read_image, read_object};
+use object_format::{BadFile, Image, Object, What, image_version, read_image, read_object};
 use stack_vm::{Valid, validate};
 use std::alloc::Global;
 
@@ -50,12 +52,22 @@ fn within_limit(bytes: &Bytes) -> Result<(), OrMemory<BadFile>>
     }
 }
 
-fn valid_image_of(alloc: Global, bytes: Bytes) -> Result<Valid, OrMemory<BadFile>>
-    ensures { Answers (λ valid. valid.image) result (limited valid_image bytes) }
+// The image that the bytes of a file spell, and in which version. The bytes are let go.
+fn image_of(alloc: Global, bytes: Bytes) -> Result<(Image, u16), OrMemory<BadFile>>
+    ensures image { Answers (λ x. x.0) result (limited image_at bytes) }
+    ensures version { IfOk result (λ x. x.1 ≡ version_field bytes) }
+    ensures known { IfOk result (λ x. (x.1 ≡ 1) ⊎ (x.1 ≡ 2)) }
 {
     within_limit(&bytes)?;
     let image = read_image(alloc, bytes.as_slice())?;
-    validate(alloc, image)
+    Ok((image, image_version(bytes.as_slice())))
+}
+
+fn valid_image_of(alloc: Global, bytes: Bytes) -> Result<Valid, OrMemory<BadFile>>
+    ensures { Answers (λ valid. valid.image) result (limited valid_image bytes) }
+{
+    let (image, version) = image_of(alloc, bytes)?;
+    validate(alloc, image, version)
 }
 
 fn listed_of(alloc: Global, bytes: Bytes) -> Result<Listed, OrMemory<BadFile>>

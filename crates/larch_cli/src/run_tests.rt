@@ -5,7 +5,7 @@ use stack_vm::MemorySink;
 use std::alloc::{AllocError, Global};
 use std::test::Fail;
 
-// What `fn main() { print(7); }` is built into.
+// `fn main() { print(7); }` in version 1 of the format.
 const SEVEN: [u8; 23] = [
     0x4c, 0x52, 0x50, 0x58, 0, 1, 0, 0, 0, 0, 0, 0, 0, 1, 0, 0, 0, 0, 4, 1, 7, 0x17, 0x16,
 ];

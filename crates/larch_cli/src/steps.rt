@@ -12,7 +12,7 @@ ghost use Rattle.larch_cli.specs.Steps.{SourceEnds, WriteEnds, PutEnds};
 
 use crate::{Files, Read, Status, Wrote, image_of_prints};
 use lar_bytes::{Bytes, Text};
-use lar_syntax::thin;
+use lar_lexer::thin;
 use lar_tree::File;
 use object_format::write_image;
 use stack_vm::{Putting, Sink, put_all};

@@ -7,19 +7,19 @@ use std::process::Abort;
 use std::test::Fail;
 
 // `fn main() { print(7); }`: a function of four bytes, PUSH8 7, PRINT and RET.
-const SEVEN: [u8; 23] = [
-    0x4c, 0x52, 0x50, 0x58, 0, 1, 0, 0, 0, 0, 0, 0, 0, 1, 0, 0, 0, 0, 4, 1, 7, 0x17, 0x16,
+pub(crate) const SEVEN: [u8; 25] = [
+    0x4c, 0x52, 0x50, 0x58, 0, 2, 0, 0, 0, 0, 0, 0, 0, 1, 0, 0, 0, 0, 0, 0, 4, 1, 7, 0x17, 0x16,
 ];
 
 // `fn main() { }`: RET alone.
-const NOTHING: [u8; 20] = [
-    0x4c, 0x52, 0x50, 0x58, 0, 1, 0, 0, 0, 0, 0, 0, 0, 1, 0, 0, 0, 0, 1, 0x16,
+const NOTHING: [u8; 22] = [
+    0x4c, 0x52, 0x50, 0x58, 0, 2, 0, 0, 0, 0, 0, 0, 0, 1, 0, 0, 0, 0, 0, 0, 1, 0x16,
 ];
 
 // 127 and 007 are pushed by one byte; 128 and 9223372036854775807 by eight.
-const EDGES: [u8; 46] = [
-    0x4c, 0x52, 0x50, 0x58, 0, 1, 0, 0, 0, 0, 0, 0, 0, 1, 0, 0, 0, 0, 27, 1, 0x7f, 0x17, 1, 7,
-    0x17, 2, 0, 0, 0, 0, 0, 0, 0, 0x80, 0x17, 2, 0x7f, 0xff, 0xff, 0xff, 0xff, 0xff, 0xff, 0xff,
+const EDGES: [u8; 48] = [
+    0x4c, 0x52, 0x50, 0x58, 0, 2, 0, 0, 0, 0, 0, 0, 0, 1, 0, 0, 0, 0, 0, 0, 0x1b, 1, 0x7f, 0x17, 1,
+    7, 0x17, 2, 0, 0, 0, 0, 0, 0, 0, 0x80, 0x17, 2, 0x7f, 0xff, 0xff, 0xff, 0xff, 0xff, 0xff, 0xff,
     0x17, 0x16,
 ];
 

@@ -4,7 +4,7 @@
 
 ghost use Rattle.std.specs.Prelude.{◌≡◌, ◌<◌, ◌≤◌, ◌+◌, ◌-◌, length, ◌^◌, ◌∷◌, [], min, map, codes, string_bytes, option_map, IsTrue, IfOk};
 ghost use Rattle.std.specs.List.{list_all};
-ghost use Rattle.lar_syntax.specs.Thin as thin;
+ghost use Rattle.lar_lexer.specs.Thin as thin;
 ghost use Rattle.larch_cli.specs.Line as lines;
 ghost use Rattle.larch_cli.specs.Words as spec;
 

@@ -20,11 +20,11 @@ use Rattle.object_format.specs.Code.{Instruction, IsInstruction, IsLinkedInstruc
 use Rattle.object_format.specs.declared.opcode.Opcode.{Opcode}
 use Rattle.object_format.specs.declared.opcode.Opcode.TheVariants.{Call}
 
-all-append : (P : Instruction → Type 0) (xs ys : List Instruction) → AllByRecursion P xs → AllByRecursion P ys → AllByRecursion P (xs ++ ys)
+pub all-append : (P : Instruction → Type 0) (xs ys : List Instruction) → AllByRecursion P xs → AllByRecursion P ys → AllByRecursion P (xs ++ ys)
 all-append P [] ys p q = q
 all-append P (x ∷ xs) ys p q = (p.0, all-append P xs ys p.1 q)
 
-all-more : (P Q : Instruction → Type 0) → ((i : Instruction) → P i → Q i) → (xs : List Instruction) → AllByRecursion P xs → AllByRecursion Q xs
+pub all-more : (P Q : Instruction → Type 0) → ((i : Instruction) → P i → Q i) → (xs : List Instruction) → AllByRecursion P xs → AllByRecursion Q xs
 all-more P Q f [] p = tt
 all-more P Q f (x ∷ xs) p = (f x p.0, all-more P Q f xs p.1)
 

@@ -1,5 +1,5 @@
 -- A field that is read is the field that was written, and what was written is read again.
-use Rattle.std.proofs.Common.{◌≡◌, ℕ, suc, ◌+◌, ◌^◌, ◌<◌, ◌≤◌, Bool, true, false, cond, eqb, ltb, List, [], ◌∷◌, ◌++◌, length, get_or, take, drop, Result, Ok, Err, refl, sym, ap, subst, ◌∙◌, append_assoc, arith, inl, inr}
+use Rattle.std.proofs.Common.{◌≡◌, ℕ, suc, ◌+◌, ◌^◌, ◌<◌, ◌≤◌, Bool, true, false, cond, eqb, ltb, List, [], ◌∷◌, ◌++◌, length, get_or, take, drop, Option, Some, None, Result, Ok, Err, refl, sym, ap, subst, ◌∙◌, append_assoc, arith, inl, inr}
 use Rattle.std.specs.Int.{Width, w16, w32, byte_len, from_be_bytes, to_be_bytes}
 use Rattle.std.specs.Str.{bytes_eq}
 use Rattle.std.proofs.lemmas.Bool.{cases_lt, cases_Bool, ltb-false, le-ltb, eqb-true}
@@ -8,8 +8,12 @@ use Rattle.std.proofs.lemmas.Nat.{be_bytes_2, be_bytes_4, from_be_bytes-to_be_by
 use Rattle.std.proofs.lemmas.Slice.Eq.{bytes_eq-Decides}
 use Rattle.object_format.specs.declared.fault.BadFile.{BadFile}
 use Rattle.object_format.specs.declared.fault.What.{What}
-use Rattle.object_format.specs.declared.fault.What.TheVariants.{Magic, Version}
-use Rattle.object_format.specs.Reading.{Rest, ◌>>=◌, refused, after, block_at, first_byte, byte_at, number_at, fixed_at, opening_at, end_at}
+use Rattle.object_format.specs.declared.fault.What.TheVariants as what
+use Rattle.object_format.specs.Image.{opening}
+use Rattle.object_format.specs.Version.{number_of, max_code, most_code, length_width, if_newest, version_of}
+use Rattle.object_format.specs.declared.version.Version.{Version}
+use Rattle.object_format.specs.declared.version.Version.TheVariants.{One, Two}
+use Rattle.object_format.specs.Reading.{Rest, ◌>>=◌, refused, after, block_at, first_byte, byte_at, number_at, fixed_at, known, opening_at, length_at, end_at}
 
 abbrev pub IsBytes : List ℕ → Type 0
 IsBytes bytes = (i : ℕ) → get_or bytes i 0 < 256
@@ -127,40 +131,113 @@ block_again text at behind =
     let long : ltb (length (text ++ behind)) (length text) ≡ false = le-ltb _ _ (omega (arith, length-append text behind)) in
     rw (long, take_at text behind (length text) refl, drop_at text behind (length text) refl) refl
 
-pub fixed_takes : (text : List ℕ) (what : What) (r s : Rest) → IsBytes r.bytes → fixed_at text what r ≡ Ok s → Takes r text s
-fixed_takes text what r s fits e =
+pub fixed_takes : (text : List ℕ) (fault : What) (r s : Rest) → IsBytes r.bytes → fixed_at text fault r ≡ Ok s → Takes r text s
+fixed_takes text fault r s fits e =
     let n = length text in
     let bytes = r.bytes in
     let same = bytes_eq (take n bytes) text in
     elim (cases_Bool (ltb (length bytes) n)) [
       | inl short ↦ absurd (let bad = rw short at e in cc)
       | inr long ↦
-          let read : cond same (Ok (after n r)) (refused r.at what) ≡ Ok s = rw long at e in
+          let read : cond same (Ok (after n r)) (refused r.at fault) ≡ Ok s = rw long at e in
           let g = guard_held same _ (after n r) s read in
           let is : take n bytes ≡ text = (bytes_eq-Decides (take n bytes) text).0 g.0 in
           let took : Takes r text (after n r) = record { parts = sym (take-append-drop n bytes) ∙ ap (λ (t : List ℕ). t ++ drop n bytes) is; fits = IsBytes-drop n bytes fits } in
           subst (Takes r text) g.1 took
     ]
 
-pub fixed_again : (text : List ℕ) (what : What) (at : ℕ) (behind : List ℕ) → fixed_at text what (record { at = at; bytes = text ++ behind }) ≡ Ok (record { at = at + length text; bytes = behind })
-fixed_again text what at behind =
+pub fixed_again : (text : List ℕ) (fault : What) (at : ℕ) (behind : List ℕ) → fixed_at text fault (record { at = at; bytes = text ++ behind }) ≡ Ok (record { at = at + length text; bytes = behind })
+fixed_again text fault at behind =
     let long : ltb (length (text ++ behind)) (length text) ≡ false = le-ltb _ _ (omega (arith, length-append text behind)) in
     let same : bytes_eq text text ≡ true = (bytes_eq-Decides text text).1 refl in
     rw (long, take_at text behind (length text) refl, drop_at text behind (length text) refl, same) refl
 
 -- ---- the magic and the version, and the end
 
-pub opening_takes : (magic : List ℕ) (r s : Rest) → IsBytes r.bytes → opening_at magic r ≡ Ok s → Takes r (magic ++ 0 ∷ 1 ∷ []) s
-unfolding opening_at
-opening_takes magic r s fits e =
-    let one = 0 ∷ 1 ∷ [] in
-    let a = bind_ok (fixed_at magic Magic r) (λ m. fixed_at one Version m) s e in
-    let first = fixed_takes magic Magic r a.0 fits a.1 in
-    Takes-then r magic a.0 one s first (fixed_takes one Version a.0 s first.fits a.2)
+-- where the newest version that is taken is the first, it is the first
+abbrev pub IsUpTo : Version → Version → Type 0
+IsUpTo One version = version ≡ One
+IsUpTo Two version = Unit {0}
 
-pub opening_again : (magic : List ℕ) (behind : List ℕ) → opening_at magic (record { at = 0; bytes = magic ++ (0 ∷ 1 ∷ behind) }) ≡ Ok (record { at = 0 + length magic + 2; bytes = behind })
+is_up_to-one : (newest : Version) → IsUpTo newest One
+is_up_to-one One = refl
+is_up_to-one Two = tt
+
+record IsKnown (newest : Version) (n : ℕ) (r : Rest) (x : Version × Rest) : Type 0 where
+  pub number : number_of x.0 ≡ n
+  pub rest : x.1 ≡ r
+  pub newest_is : IsUpTo newest x.0
+
+known_by : (newest : Version) (one two : Bool) (at n : ℕ) (r : Rest) (x : Version × Rest) → eqb n 1 ≡ one → eqb n 2 ≡ two → known at (cond one (Some One) (cond two (if_newest newest) None)) r ≡ Ok x → IsKnown newest n r x
+known_by newest true two at n r x first second e =
+    subst (IsKnown newest n r) (ok_is (One, r) x e) (record { number = sym (eqb-true n 1 first); rest = refl; newest_is = is_up_to-one newest })
+known_by Two false true at n r x first second e =
+    subst (IsKnown Two n r) (ok_is (Two, r) x e) (record { number = sym (eqb-true n 2 second); rest = refl; newest_is = tt })
+known_by One false true at n r x first second e = absurd cc
+known_by newest false false at n r x first second e = absurd cc
+
+pub opening_takes : (newest : Version) (magic : List ℕ) (r : Rest) (x : Version × Rest) → IsBytes r.bytes → opening_at newest magic r ≡ Ok x → Takes r (opening magic x.0) x.1 × IsUpTo newest x.0
 unfolding opening_at
-opening_again magic behind = rw (fixed_again magic Magic 0 (0 ∷ 1 ∷ behind), fixed_again (0 ∷ 1 ∷ []) Version (0 + length magic) behind) refl
+opening_takes newest magic r x fits e =
+    let a = bind_ok (fixed_at magic what.Magic r) (λ body. number_at w16 body >>= λ number. known body.at (version_of newest number.0) number.1) x e in
+    let b = bind_ok (number_at w16 a.0) (λ number. known a.0.at (version_of newest number.0) number.1) x a.2 in
+    let first = fixed_takes magic what.Magic r a.0 fits a.1 in
+    let second = number_takes w16 (2 ^ 16) wide16 a.0 b.0.0 b.0.1 first.fits b.1 in
+    let version = known_by newest (eqb b.0.0 1) (eqb b.0.0 2) a.0.at b.0.0 b.0.1 x refl refl b.2 in
+    let both : Takes r (magic ++ to_be_bytes w16 b.0.0) b.0.1 = Takes-then r magic a.0 (to_be_bytes w16 b.0.0) b.0.1 first second.0 in
+    let named : Takes r (opening magic x.0) b.0.1 = subst (λ (k : ℕ). Takes r (magic ++ to_be_bytes w16 k) b.0.1) (sym version.number) both in
+    (subst (λ (s : Rest). Takes r (opening magic x.0) s) (sym version.rest) named, version.newest_is)
+
+version_of-number : (newest version : Version) → IsUpTo newest version → version_of newest (number_of version) ≡ Some version
+version_of-number One One h = refl
+version_of-number Two One h = refl
+version_of-number Two Two h = refl
+version_of-number One Two h = absurd cc
+
+pub small_number : (version : Version) → number_of version < 2 ^ 16
+small_number One = omega arith
+small_number Two = omega arith
+
+pub opening_again : (newest version : Version) (magic : List ℕ) (behind : List ℕ) → IsUpTo newest version
+    → opening_at newest magic (record { at = 0; bytes = opening magic version ++ behind }) ≡ Ok (version, record { at = 0 + length magic + 2; bytes = behind })
+unfolding opening_at
+opening_again newest version magic behind h =
+    let number = to_be_bytes w16 (number_of version) in
+    ap (λ (x : List ℕ). opening_at newest magic (record { at = 0; bytes = x })) (append_assoc magic number behind)
+    ∙ rw (fixed_again magic what.Magic 0 (number ++ behind), number_again w16 (2 ^ 16) wide16 (number_of version) (0 + length magic) behind (small_number version), version_of-number newest version h) refl
+
+-- ---- the length of code
+
+abbrev wide_limit : Version → ℕ
+wide_limit One = 2 ^ 16
+wide_limit Two = 2 ^ 32
+
+code_wide : (version : Version) → IsWide (length_width version) (wide_limit version)
+code_wide One = wide16
+code_wide Two = wide32
+
+below_limit : (version : Version) (n : ℕ) → n ≤ most_code version → n < wide_limit version
+below_limit One n h = omega (arith, h)
+below_limit Two n h = omega (arith, h)
+
+pub most_code-most : (version : Version) → most_code version ≤ max_code
+most_code-most One = omega arith
+most_code-most Two = omega arith
+
+pub length_takes : (version : Version) (r : Rest) (x : ℕ × Rest) → IsBytes r.bytes → length_at version r ≡ Ok x → Takes r (to_be_bytes (length_width version) x.0) x.1 × (x.0 ≤ most_code version)
+unfolding length_at
+length_takes version r x fits e =
+    let w = length_width version in
+    let a = bind_ok (number_at w r) (λ len. cond (ltb (most_code version) len.0) (refused r.at what.Code) (Ok len)) x e in
+    let g = guard_ok (ltb (most_code version) a.0.0) _ a.0 x a.2 in
+    let t = number_takes w (wide_limit version) (code_wide version) r a.0.0 a.0.1 fits a.1 in
+    subst (λ (y : ℕ × Rest). Takes r (to_be_bytes w y.0) y.1 × (y.0 ≤ most_code version)) g.1 (t.0, ltb-false _ _ g.0)
+
+pub length_again : (version : Version) (n at : ℕ) (behind : List ℕ) → n ≤ most_code version
+    → length_at version (record { at = at; bytes = to_be_bytes (length_width version) n ++ behind }) ≡ Ok (n, record { at = at + byte_len (length_width version); bytes = behind })
+unfolding length_at
+length_again version n at behind h =
+    rw (number_again (length_width version) (wide_limit version) (code_wide version) n at behind (below_limit version n h), le-ltb (most_code version) n h) refl
 
 pub end_is : (r : Rest) (u : Unit {0}) → end_at r ≡ Ok u → r.bytes ≡ []
 end_is r u e = nil_from_length r.bytes (eqb-true _ _ (guard_held (eqb (length r.bytes) 0) _ tt u e).0)

@@ -8,5 +8,7 @@ pub mod Items
 pub mod ObjectFields
 pub mod Objects
 pub mod Opcodes
+pub mod Pieces
+mod Splits
 pub mod SymbolTests
 mod WorkedObjects

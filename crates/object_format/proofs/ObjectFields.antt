@@ -1,15 +1,17 @@
 -- The fields of an object: what is read of each is spelled so, and what is spelled so is read.
-use Rattle.std.proofs.Common.{◌≡◌, ◌⊎◌, ℕ, ◌+◌, ◌^◌, ◌<◌, Bool, true, false, not, ◌&&◌, cond, eqb, List, [], ◌∷◌, ◌++◌, length, Ok, refl, sym, ap, subst, ◌∙◌, append_assoc, arith, inl, inr}
+use Rattle.std.proofs.Common.{◌≡◌, ◌⊎◌, ℕ, ◌+◌, ◌^◌, ◌<◌, ◌≤◌, Bool, true, false, not, ◌&&◌, cond, eqb, None, List, [], ◌∷◌, ◌++◌, length, Ok, refl, sym, ap, subst, ◌∙◌, append_assoc, arith, inl, inr}
 use Rattle.std.specs.Int.{w32, to_be_bytes}
 use Rattle.std.specs.Cmp.Derive.{both_true}
 use Rattle.std.proofs.lemmas.Bool.{eqb-true, and_parts}
-use Rattle.object_format.specs.declared.fault.What.TheVariants.{Symbol, Kind}
-use Rattle.object_format.specs.Code.{IsLinkedCode}
+use Rattle.object_format.specs.declared.fault.What.TheVariants as what
 use Rattle.object_format.specs.Image.{function_spelling}
 use Rattle.object_format.specs.Object.{UnlinkedFn, Unlinked, IsSymbol, IsUnlinkedFn, body_of, callees_of, symbol_spelling, kind_byte, unlinked_spelling}
 use Rattle.object_format.specs.Reading.{Rest, ◌>>=◌, refused, byte_at, number_at, block_at, function_at}
-use Rattle.object_format.specs.ObjectReading.{is_symbol, is_among, symbol_at, kind_at, any_callee, named, with_function, with_external, unlinked_behind, external_behind}
+use Rattle.object_format.specs.ObjectReading.{is_symbol, is_among, symbol_at, kind_at, named, with_function, with_external, unlinked_behind, external_behind}
 use Rattle.object_format.proofs.Fields.{IsBytes, bind_ok, ok_is, guard_held, Takes, Takes-then, wide32, byte_takes, number_takes, number_again, block_takes, block_again}
+use Rattle.object_format.specs.Version.{most_code}
+use Rattle.object_format.specs.declared.version.Version.{Version}
+use Rattle.object_format.proofs.CodeFaults.{made-whole}
 use Rattle.object_format.proofs.Images.{function_takes, function_again}
 use Rattle.object_format.proofs.SymbolTests.{symbol-tested, tested-symbol}
 
@@ -26,8 +28,8 @@ not_so true h = absurd cc
 pub symbol_takes : (before : List (List ℕ)) (r : Rest) (x : List ℕ × Rest) → IsBytes r.bytes → symbol_at before r ≡ Ok x → Takes r (symbol_spelling x.0) x.1 × IsNewSymbol before x.0
 unfolding symbol_at
 symbol_takes before r x fits e =
-    let a = bind_ok (number_at w32 r) (λ len. block_at len.0 len.1 >>= λ symbol. cond (is_symbol symbol.0 && not (is_among before symbol.0)) (Ok symbol) (refused len.1.at Symbol)) x e in
-    let b = bind_ok (block_at a.0.0 a.0.1) (λ symbol. cond (is_symbol symbol.0 && not (is_among before symbol.0)) (Ok symbol) (refused a.0.1.at Symbol)) x a.2 in
+    let a = bind_ok (number_at w32 r) (λ len. block_at len.0 len.1 >>= λ symbol. cond (is_symbol symbol.0 && not (is_among before symbol.0)) (Ok symbol) (refused len.1.at what.Symbol)) x e in
+    let b = bind_ok (block_at a.0.0 a.0.1) (λ symbol. cond (is_symbol symbol.0 && not (is_among before symbol.0)) (Ok symbol) (refused a.0.1.at what.Symbol)) x a.2 in
     let g = guard_held (is_symbol b.0.0 && not (is_among before b.0.0)) _ b.0 x b.2 in
     let parts = and_parts (is_symbol b.0.0) (not (is_among before b.0.0)) g.0 in
     let t1 = number_takes w32 (2 ^ 32) wide32 r a.0.0 a.0.1 fits a.1 in
@@ -55,9 +57,9 @@ chosen false x y z e = inr (refl, e)
 
 pub kind_takes : (r : Rest) (x : Bool × Rest) → IsBytes r.bytes → kind_at r ≡ Ok x → Takes r (kind_byte x.0 ∷ []) x.1
 kind_takes r x fits e =
-    let a = bind_ok (byte_at r) (λ kind. cond (eqb kind.0 1) (Ok (true, kind.1)) (cond (eqb kind.0 0) (Ok (false, kind.1)) (refused r.at Kind))) x e in
+    let a = bind_ok (byte_at r) (λ kind. cond (eqb kind.0 1) (Ok (true, kind.1)) (cond (eqb kind.0 0) (Ok (false, kind.1)) (refused r.at what.Kind))) x e in
     let took = (byte_takes r a.0.0 a.0.1 fits a.1).0 in
-    elim (chosen (eqb a.0.0 1) (Ok (true, a.0.1)) (cond (eqb a.0.0 0) (Ok (false, a.0.1)) (refused r.at Kind)) (Ok x) a.2) [
+    elim (chosen (eqb a.0.0 1) (Ok (true, a.0.1)) (cond (eqb a.0.0 0) (Ok (false, a.0.1)) (refused r.at what.Kind)) (Ok x) a.2) [
       | inl p ↦ subst (λ (y : Bool × Rest). Takes r (kind_byte y.0 ∷ []) y.1) (ok_is (true, a.0.1) x p.1) (subst (λ (k : ℕ). Takes r (k ∷ []) a.0.1) (eqb-true _ _ p.0) took)
       | inr p ↦
           let g = guard_held (eqb a.0.0 0) _ (false, a.0.1) x p.1 in
@@ -70,37 +72,38 @@ kind_again false at behind = refl
 
 -- ---- a function
 
-pub record TakesFunction (o : Unlinked) (r : Rest) (x : Unlinked × Rest) : Type 0 where
+pub record TakesFunction (version : Version) (o : Unlinked) (r : Rest) (x : Unlinked × Rest) : Type 0 where
   pub function : UnlinkedFn
   pub more : x.0 ≡ with_function o function
-  pub takes : Takes r (unlinked_spelling function) x.1
+  pub takes : Takes r (unlinked_spelling version function) x.1
   pub own : IsUnlinkedFn function
+  pub short : length function.code ≤ most_code version
   pub new : is_among (callees_of o) function.symbol ≡ false
 
-pub function_takes_more : (o : Unlinked) (r : Rest) (x : Unlinked × Rest) → IsBytes r.bytes → unlinked_behind o r ≡ Ok x → TakesFunction o r x
+pub function_takes_more : (version : Version) (o : Unlinked) (r : Rest) (x : Unlinked × Rest) → IsBytes r.bytes → unlinked_behind version o r ≡ Ok x → TakesFunction version o r x
 unfolding unlinked_behind
-function_takes_more o r x fits e =
-    let a = bind_ok (symbol_at (callees_of o) r) (λ symbol. kind_at symbol.1 >>= λ kind. function_at any_callee kind.1 >>= λ body. Ok (with_function o (named symbol.0 kind.0 body.0), body.1)) x e in
-    let b = bind_ok (kind_at a.0.1) (λ kind. function_at any_callee kind.1 >>= λ body. Ok (with_function o (named a.0.0 kind.0 body.0), body.1)) x a.2 in
-    let c = bind_ok (function_at any_callee b.0.1) (λ body. Ok (with_function o (named a.0.0 b.0.0 body.0), body.1)) x b.2 in
+function_takes_more version o r x fits e =
+    let a = bind_ok (symbol_at (callees_of o) r) (λ symbol. kind_at symbol.1 >>= λ kind. function_at version None kind.1 >>= λ body. Ok (with_function o (named symbol.0 kind.0 body.0), body.1)) x e in
+    let b = bind_ok (kind_at a.0.1) (λ kind. function_at version None kind.1 >>= λ body. Ok (with_function o (named a.0.0 kind.0 body.0), body.1)) x a.2 in
+    let c = bind_ok (function_at version None b.0.1) (λ body. Ok (with_function o (named a.0.0 b.0.0 body.0), body.1)) x b.2 in
     let t1 = symbol_takes (callees_of o) r a.0 fits a.1 in
     let t2 = kind_takes a.0.1 b.0 t1.0.fits b.1 in
-    let t3 = function_takes any_callee b.0.1 c.0 t2.fits c.1 in
-    let e23 = Takes-then a.0.1 (kind_byte b.0.0 ∷ []) b.0.1 (function_spelling c.0.0) c.0.1 t2 t3.0 in
-    let e13 = Takes-then r (symbol_spelling a.0.0) a.0.1 (kind_byte b.0.0 ∷ function_spelling c.0.0) c.0.1 t1.0 e23 in
+    let t3 = function_takes version None b.0.1 c.0 t2.fits c.1 in
+    let e23 = Takes-then a.0.1 (kind_byte b.0.0 ∷ []) b.0.1 (function_spelling version c.0.0) c.0.1 t2 t3.0 in
+    let e13 = Takes-then r (symbol_spelling a.0.0) a.0.1 (kind_byte b.0.0 ∷ function_spelling version c.0.0) c.0.1 t1.0 e23 in
     let made : UnlinkedFn = named a.0.0 b.0.0 c.0.0 in
-    subst (TakesFunction o r) (ok_is (with_function o made, c.0.1) x c.2)
-    (record { function = made; more = refl; takes = e13; own = record { symbol = t1.1.symbol; body = t3.1.fits }; new = t1.1.new })
+    subst (TakesFunction version o r) (ok_is (with_function o made, c.0.1) x c.2)
+    (record { function = made; more = refl; takes = e13; own = record { symbol = t1.1.symbol; body = t3.1.own }; short = t3.1.short; new = t1.1.new })
 
-pub function_again_more : (o : Unlinked) (f : UnlinkedFn) (at : ℕ) (behind : List ℕ) → IsUnlinkedFn f → IsLinkedCode any_callee f.code → is_among (callees_of o) f.symbol ≡ false
-    → (to : ℕ) × (unlinked_behind o (record { at = at; bytes = unlinked_spelling f ++ behind }) ≡ Ok (with_function o f, record { at = to; bytes = behind }))
+pub function_again_more : (version : Version) (o : Unlinked) (f : UnlinkedFn) (at : ℕ) (behind : List ℕ) → IsUnlinkedFn f → length f.code ≤ most_code version → is_among (callees_of o) f.symbol ≡ false
+    → (to : ℕ) × (unlinked_behind version o (record { at = at; bytes = unlinked_spelling version f ++ behind }) ≡ Ok (with_function o f, record { at = to; bytes = behind }))
 unfolding unlinked_behind
-function_again_more o f at behind own linked new =
-    let body = function_again any_callee (body_of f) (at + 4 + length f.symbol + 1) behind own.body linked in
-    let rest = function_spelling (body_of f) ++ behind in
-    let regrouped : unlinked_spelling f ++ behind ≡ symbol_spelling f.symbol ++ (kind_byte f.external ∷ rest) = append_assoc (symbol_spelling f.symbol) (kind_byte f.external ∷ function_spelling (body_of f)) behind in (
+function_again_more version o f at behind own short new =
+    let body = function_again version None (body_of f) (at + 4 + length f.symbol + 1) behind short (made-whole f.code own.body.whole) in
+    let rest = function_spelling version (body_of f) ++ behind in
+    let regrouped : unlinked_spelling version f ++ behind ≡ symbol_spelling f.symbol ++ (kind_byte f.external ∷ rest) = append_assoc (symbol_spelling f.symbol) (kind_byte f.external ∷ function_spelling version (body_of f)) behind in (
       body.0,
-      ap (λ (x : List ℕ). unlinked_behind o (record { at = at; bytes = x })) regrouped
+      ap (λ (x : List ℕ). unlinked_behind version o (record { at = at; bytes = x })) regrouped
           ∙ rw (symbol_again (callees_of o) f.symbol at (kind_byte f.external ∷ rest) own.symbol new, kind_again f.external (at + 4 + length f.symbol) rest, body.1) refl,
     )
 

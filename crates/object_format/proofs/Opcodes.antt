@@ -2,8 +2,9 @@
 use Rattle.std.proofs.Common.{◌≡◌, ℕ, zero, suc, ◌+◌, ◌<◌, List, [], ◌∷◌, Some, None, refl, sym, ap, ◌∙◌, arith, slice_get}
 use Rattle.std.proofs.lemmas.Option.{slice_get_past}
 use Rattle.object_format.specs.Opcode.{row, opcodes, opcode_of}
+use Rattle.object_format.specs.declared.opcode.Operator.TheVariants.{Add, Sub, Mul, Div, Rem, Equal, NotEqual, Less, AtMost, Greater, AtLeast}
 use Rattle.object_format.specs.declared.opcode.Opcode.{Opcode}
-use Rattle.object_format.specs.declared.opcode.Opcode.TheVariants.{Push8, Push64, Load, Store, Pop, Add, Sub, Mul, Div, Rem, Neg, Equal, NotEqual, Less, AtMost, Greater, AtLeast, Not, Jump, JumpZero, Call, Return, Print, Trap, Dup, Nop}
+use Rattle.object_format.specs.declared.opcode.Opcode.TheVariants.{Push8, Push64, Load, Store, Pop, Compute, Neg, Not, Jump, JumpZero, Call, Return, Print, Trap, Dup, Nop}
 
 -- a byte past the table stands for none
 pub opcode_of-past : (byte : ℕ) → 26 < byte → opcode_of byte ≡ None
@@ -32,18 +33,18 @@ opcode_of-number Push64 = refl
 opcode_of-number Load = refl
 opcode_of-number Store = refl
 opcode_of-number Pop = refl
-opcode_of-number Add = refl
-opcode_of-number Sub = refl
-opcode_of-number Mul = refl
-opcode_of-number Div = refl
-opcode_of-number Rem = refl
+opcode_of-number (Compute Add) = refl
+opcode_of-number (Compute Sub) = refl
+opcode_of-number (Compute Mul) = refl
+opcode_of-number (Compute Div) = refl
+opcode_of-number (Compute Rem) = refl
 opcode_of-number Neg = refl
-opcode_of-number Equal = refl
-opcode_of-number NotEqual = refl
-opcode_of-number Less = refl
-opcode_of-number AtMost = refl
-opcode_of-number Greater = refl
-opcode_of-number AtLeast = refl
+opcode_of-number (Compute Equal) = refl
+opcode_of-number (Compute NotEqual) = refl
+opcode_of-number (Compute Less) = refl
+opcode_of-number (Compute AtMost) = refl
+opcode_of-number (Compute Greater) = refl
+opcode_of-number (Compute AtLeast) = refl
 opcode_of-number Not = refl
 opcode_of-number Jump = refl
 opcode_of-number JumpZero = refl

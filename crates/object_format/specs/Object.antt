@@ -1,10 +1,13 @@
--- What an object is, the rules that it keeps, and its one spelling.
-use Rattle.std.specs.Prelude.{ℕ, ◌+◌, ◌<◌, ◌≤◌, ◌^◌, Bool, true, false, List, [], ◌∷◌, ◌++◌, length, map}
+-- What an object is, the rules that it keeps, and its one spelling in each version.
+use Rattle.std.specs.Prelude.{◌≡◌, ℕ, ◌+◌, ◌<◌, ◌≤◌, ◌^◌, Bool, true, false, List, [], ◌∷◌, ◌++◌, length, map}
 use Rattle.std.specs.Int.{w32, to_be_bytes}
 use Rattle.std.specs.List.{flat_map, AllByRecursion, IsDistinct}
 use Rattle.std.specs.Str.{bytes_eq}
 use Rattle.object_format.specs.Code.{IsLinkedCode}
-use Rattle.object_format.specs.Image.{LinkedFn, IsLinkedFn, function_spelling}
+use Rattle.object_format.specs.Image.{LinkedFn, IsLinkedFn, function_spelling, opening}
+use Rattle.object_format.specs.Version.{most_code}
+use Rattle.object_format.specs.declared.version.Version.{Version}
+use Rattle.object_format.specs.declared.version.Version.TheVariants.{One, Two}
 
 -- a function of an object, without where it lies in memory; external is whether other objects may call it
 pub record UnlinkedFn : Type 0 where
@@ -63,6 +66,10 @@ pub record IsObject (o : Unlinked) : Type 0 where
   pub unlinked : IsUnlinked o
   pub each : AllByRecursion IsUnlinkedFn o.functions
 
+-- each function's code is no longer than the version's limit
+abbrev pub ObjectFitsVersion : Version → List UnlinkedFn → Type 0
+ObjectFitsVersion version = AllByRecursion (λ f. length f.code ≤ most_code version)
+
 -- a symbol behind its length in four bytes
 abbrev pub symbol_spelling : List ℕ → List ℕ
 symbol_spelling s = to_be_bytes w32 (length s) ++ s
@@ -72,21 +79,42 @@ kind_byte true = 1
 kind_byte false = 0
 
 -- the symbol, the kind, and the function as in an image
-abbrev pub unlinked_spelling : UnlinkedFn → List ℕ
-unlinked_spelling f = symbol_spelling f.symbol ++ kind_byte f.external ∷ function_spelling (body_of f)
+abbrev pub unlinked_spelling : Version → UnlinkedFn → List ℕ
+unlinked_spelling version f = symbol_spelling f.symbol ++ kind_byte f.external ∷ function_spelling version (body_of f)
 
 -- functions behind their count
-abbrev pub functions_spelling : List UnlinkedFn → List ℕ
-functions_spelling fs = to_be_bytes w32 (length fs) ++ flat_map unlinked_spelling fs
+abbrev pub functions_spelling : Version → List UnlinkedFn → List ℕ
+functions_spelling version fs = to_be_bytes w32 (length fs) ++ flat_map (unlinked_spelling version) fs
 
 -- symbols behind their count
 abbrev pub symbols_spelling : List (List ℕ) → List ℕ
 symbols_spelling ss = to_be_bytes w32 (length ss) ++ flat_map symbol_spelling ss
 
--- "LROB" and version 1
+-- "LROB"
 abbrev pub object_magic : List ℕ
-object_magic = 0x4c ∷ 0x52 ∷ 0x4f ∷ 0x42 ∷ 0x00 ∷ 0x01 ∷ []
+object_magic = 0x4c ∷ 0x52 ∷ 0x4f ∷ 0x42 ∷ []
 
 -- magic and version, the functions and the externals
+abbrev pub object_spelling_in : Version → Unlinked → List ℕ
+object_spelling_in version o = opening object_magic version ++ functions_spelling version o.functions ++ symbols_spelling o.externals
+
+-- The bytes are the object's spelling in this version, in which its code may be so long.
+pub record SpellsObjectAs (version : Version) (bytes : List ℕ) (o : Unlinked) : Type 0 where
+  pub object : IsObject o
+  pub fits : ObjectFitsVersion version o.functions
+  pub spelled : bytes ≡ object_spelling_in version o
+
+-- The same in some version.
+pub record SpellsObject (bytes : List ℕ) (o : Unlinked) : Type 0 where
+  pub version : Version
+  pub spells : SpellsObjectAs version bytes o
+
+-- the spelling in the newest version, which is the one that is written
 abbrev pub object_spelling : Unlinked → List ℕ
-object_spelling o = object_magic ++ functions_spelling o.functions ++ symbols_spelling o.externals
+object_spelling = object_spelling_in Two
+
+-- The bytes spell an object in the oldest version, and these others spell it in the newest.
+pub record LiftsTo (bytes lifted : List ℕ) : Type 0 where
+  pub object : Unlinked
+  pub before : SpellsObjectAs One bytes object
+  pub after : lifted ≡ object_spelling object

@@ -1,13 +1,14 @@
 //! The fields that a file is made of, each read from what is left of it. A reader gives what it has read and what is left then, or says
 //! at which field of the file the end came too soon, or something stood that may not stand there.
 
-ghost use Rattle.std.specs.Prelude.{◌≡◌, ◌<◌, ◌^◌, IfOk};
+ghost use Rattle.std.specs.Prelude.{◌≡◌, ◌<◌, ◌≤◌, ◌^◌, IfOk};
 ghost use Rattle.std.specs.Int.{w16, w32};
 ghost use Rattle.lar_bytes.specs.Answers.{Answers};
-ghost use Rattle.object_format.specs.Reading.{block_at, byte_at, number_at, fixed_at, opening_at, end_at};
+ghost use Rattle.object_format.specs.Reading.{block_at, byte_at, number_at, fixed_at, opening_at, length_at, end_at};
+ghost use Rattle.object_format.specs.Version.{length_width, max_code};
 ghost use Rattle.lar_bytes.specs.declared.memory.OrMemory.TheVariants.{Refused};
 
-use crate::{BadFile, What};
+use crate::{BadFile, Version, What};
 use lar_bytes::OrMemory;
 use std::marker::Model;
 
@@ -113,16 +114,55 @@ pub(crate) fn fixed_of<'a>(
     })
 }
 
-/// The magic of a format, and version 1.
+/// The magic of a format, and a version that is none above the newest one that is taken.
 #[tactic(auto, unfolding(crate::specs::Reading::opening_at))]
 pub(crate) fn opening_of<'a>(
+    newest: Version,
     magic: &[u8],
     rest: Cursor<'a>,
-) -> Result<Cursor<'a>, OrMemory<BadFile>>
-    ensures { Answers (λ x. x) result (opening_at magic.now rest.entry) }
+) -> Result<(Version, Cursor<'a>), OrMemory<BadFile>>
+    ensures { Answers (λ x. x) result (opening_at newest magic.now rest.entry) }
 {
     let rest = fixed_of(magic, What::Magic, rest)?;
-    fixed_of(&[0, 1], What::Version, rest)
+    let at = rest.at;
+    let (number, rest) = u16_of(rest)?;
+    match Version::of(newest, number) {
+        Some(version) => Ok((version, rest)),
+        None => Err(refused(at, What::Version)),
+    }
+}
+
+/// The length of a function's code.
+#[tactic(auto, unfolding(crate::specs::Reading::length_at))]
+pub(crate) fn length_of(
+    version: Version,
+    rest: Cursor,
+) -> Result<(usize, Cursor), OrMemory<BadFile>>
+    ensures read { Answers (λ x. x) result (length_at version rest.entry) }
+    ensures fits { IfOk result (λ x. x.0 ≤ max_code) }
+{
+    let at = rest.at;
+    let (len, rest) = wide_of(version, rest)?;
+    if len > version.max_code() {
+        return Err(refused(at, What::Code));
+    }
+    Ok((len, rest))
+}
+
+/// A number in the width that a version has for the length of code.
+fn wide_of(version: Version, rest: Cursor) -> Result<(usize, Cursor), OrMemory<BadFile>>
+    ensures { Answers (λ x. x) result (number_at (length_width version) rest.entry) }
+{
+    match version {
+        Version::One => {
+            let (len, rest) = u16_of(rest)?;
+            Ok((len as usize, rest))
+        }
+        Version::Two => {
+            let (len, rest) = u32_of(rest)?;
+            Ok((len as usize, rest))
+        }
+    }
 }
 
 /// Nothing more.

@@ -4,8 +4,8 @@ ghost use Rattle.std.specs.Prelude.{◌≡◌, IfOk};
 ghost use Rattle.object_format.specs.Object.{callees_of};
 ghost use Rattle.object_format.specs.ObjectReading.{is_among, nothing, with_function, with_external};
 
-use crate::{ObjectFn, ObjectFunctions, Symbols};
-use lar_bytes::Text;
+use crate::{ObjectFn, ObjectFunctions};
+use lar_bytes::{Text, Texts};
 use std::alloc::{AllocError, Global};
 use std::collections::BTreeSet;
 use std::marker::Model;
@@ -13,7 +13,7 @@ use std::marker::Model;
 #[derive(Drop)]
 pub(crate) struct Draft<'a> {
     functions: ObjectFunctions,
-    externals: Symbols,
+    externals: Texts,
     symbols: BTreeSet<&'a str>,
 }
 
@@ -35,7 +35,7 @@ impl<'a> Draft<'a> {
     {
         Draft {
             functions: ObjectFunctions::new(alloc),
-            externals: Symbols::new(alloc),
+            externals: Texts::new(alloc),
             symbols: BTreeSet::new(alloc),
         }
     }
@@ -94,7 +94,7 @@ impl<'a> Draft<'a> {
     }
 
     /// Its functions and externals.
-    pub(crate) fn into_parts(self) -> (ObjectFunctions, Symbols)
+    pub(crate) fn into_parts(self) -> (ObjectFunctions, Texts)
         ensures { record { functions = result.0; externals = result.1 } ≡ self.entry }
     {
         let Draft {

@@ -3,19 +3,20 @@
 //! A call of an object has the number of one of its functions, or goes on counting behind them over the externals, the symbols
 //! of functions that other objects have. Both types keep the rules of the format, so that each object can be spelled.
 
-ghost use Rattle.std.specs.Prelude.{◌≡◌, ◌+◌, ◌<◌, ◌^◌, length};
+ghost use Rattle.std.specs.Prelude.{◌≡◌, ◌+◌, ◌<◌, ◌≤◌, ◌^◌, length};
 ghost use Rattle.std.specs.List.{AllByRecursion, IsDistinct};
 ghost use Rattle.std.specs.Str.{bytes_eq};
 ghost use Rattle.object_format.specs.Code.{IsWhole, IsLinkedCode};
 ghost use Rattle.object_format.specs.Object.{IsSymbol, IsUnlinked, IsUnlinkedFn, body_of, callees_of};
+ghost use Rattle.object_format.specs.Version.{max_code};
 
-use crate::{ImageFn, ObjectFunctions, Symbols};
-use lar_bytes::{Bytes, Text};
+use crate::{ImageFn, ObjectFunctions};
+use lar_bytes::{Bytes, Text, Texts};
 use std::marker::Model;
 
 /// A function of an object: its symbol, whether other objects may call it, how many words it takes, leaves and keeps in slots,
-/// and its code. The symbol has at least one byte, each of them from `!` to `~`; the code is whole instructions and fewer than
-/// 65,536 bytes.
+/// and its code. The symbol has at least one byte, each of them from `!` to `~`; the code is whole instructions and at most
+/// `MAX_CODE` bytes.
 #[derive(Debug, Drop)]
 pub struct ObjectFn {
     symbol: Text,
@@ -44,7 +45,7 @@ impl ObjectFn {
         code: Bytes,
     ) -> ObjectFn
         requires symbol { IsSymbol symbol }
-        requires short { length code < 2 ^ 16 }
+        requires short { length code ≤ max_code }
         requires whole { IsWhole code }
         ensures { result ≡ record { symbol = symbol; external = external; params = params; «result» = results; slots = slots; code = code } }
     {
@@ -104,7 +105,7 @@ impl ObjectFn {
 
     pub fn code(&self) -> &[u8]
         ensures code { result.now ≡ self.now.code }
-        ensures short { length result.now < 2 ^ 16 }
+        ensures short { length result.now ≤ max_code }
         ensures whole { IsWhole result.now }
     {
         self.body.code()
@@ -117,7 +118,7 @@ impl ObjectFn {
 #[derive(Debug, Drop)]
 pub struct Object {
     functions: ObjectFunctions,
-    externals: Symbols,
+    externals: Texts,
 }
 
 impl Model for Object {
@@ -131,7 +132,7 @@ impl Model for Object {
 }
 
 impl Object {
-    pub fn new(functions: ObjectFunctions, externals: Symbols) -> Object
+    pub fn new(functions: ObjectFunctions, externals: Texts) -> Object
         requires functions { length functions < 2 ^ 32 }
         requires externals { length externals < 2 ^ 32 }
         requires symbols { AllByRecursion IsSymbol externals }

@@ -7,21 +7,18 @@
 ghost use Rattle.std.specs.Prelude.{◌≡◌, ◌+◌, ◌<◌, ◌^◌, Ok, IfOk, length};
 ghost use Rattle.std.specs.List.{flat_map};
 ghost use Rattle.lar_bytes.specs.Answers.{Answers};
-ghost use Rattle.object_format.specs.Object.{Unlinked, IsSymbol, IsObject, callees_of, unlinked_spelling, object_spelling};
+ghost use Rattle.object_format.specs.Object.{Unlinked, IsSymbol, SpellsObject, callees_of, unlinked_spelling};
 ghost use Rattle.object_format.specs.Reading.{items_at};
-ghost use Rattle.object_format.specs.ObjectReading.{symbol_at, kind_at, unlinked_behind, external_behind, functions_part_at, externals_part_at, parts_at, call_fault_in, object_at};
+ghost use Rattle.object_format.specs.ObjectReading.{symbol_at, kind_at, unlinked_behind, external_behind, functions_part_at, externals_part_at, parts_at, call_fault_in, object_up_to, object_at};
 
 use crate::code::fault_of;
 use crate::cursor::{Cursor, block_of, end_of, opening_of, refused, u8_of, u32_of};
 use crate::draft::Draft;
 use crate::image_reading::function_of;
 use crate::symbol::symbol_text;
-use crate::{BadFile, Object, ObjectFn, What};
+use crate::{BadFile, Object, ObjectFn, Version, What};
 use lar_bytes::{OrMemory, Text};
 use std::alloc::Global;
-
-/// By this count of callees no call is refused.
-const ANY_CALLEE: u64 = 1 << 33;
 
 /// A symbol that is none of those so far.
 #[tactic(auto, unfolding(crate::specs::ObjectReading::symbol_at))]
@@ -54,18 +51,19 @@ fn kind_of(rest: Cursor) -> Result<(bool, Cursor), OrMemory<BadFile>>
     }
 }
 
-/// One function more.
+/// One function more. Its calls are not looked at yet.
 #[tactic(auto, unfolding(crate::specs::ObjectReading::unlinked_behind))]
 fn function_behind<'a>(
     alloc: Global,
+    version: Version,
     draft: Draft<'a>,
     rest: Cursor<'a>,
 ) -> Result<(Draft<'a>, Cursor<'a>), OrMemory<BadFile>>
-    ensures { Answers (λ x. x) result (unlinked_behind draft.entry rest.entry) }
+    ensures { Answers (λ x. x) result (unlinked_behind version draft.entry rest.entry) }
 {
     let (symbol, rest) = symbol_of(&draft, rest)?;
     let (external, rest) = kind_of(rest)?;
-    let (body, rest) = function_of(alloc, ANY_CALLEE, rest)?;
+    let (body, rest) = function_of(alloc, version, None, rest)?;
     let function = ObjectFn::of_body(Text::copied(alloc, symbol)?, external, body);
     let draft = draft.with_function(symbol, function)?;
     Ok((draft, rest))
@@ -88,16 +86,17 @@ fn external_behind<'a>(
 /// So many functions.
 fn functions_of<'a>(
     alloc: Global,
+    version: Version,
     count: u32,
     draft: Draft<'a>,
     rest: Cursor<'a>,
 ) -> Result<(Draft<'a>, Cursor<'a>), OrMemory<BadFile>>
-    ensures { Answers (λ x. x) result (items_at unlinked_behind count draft.entry rest.entry) }
+    ensures { Answers (λ x. x) result (items_at (unlinked_behind version) count draft.entry rest.entry) }
 {
     let mut draft = draft;
     let mut rest = rest;
     for _ in 0..count {
-        let (more, behind) = function_behind(alloc, draft, rest)?;
+        let (more, behind) = function_behind(alloc, version, draft, rest)?;
         draft = more;
         rest = behind;
     }
@@ -127,12 +126,13 @@ fn externals_of<'a>(
 #[tactic(auto, unfolding(crate::specs::ObjectReading::functions_part_at))]
 fn functions_part_of<'a>(
     alloc: Global,
+    version: Version,
     rest: Cursor<'a>,
 ) -> Result<(Draft<'a>, Cursor<'a>), OrMemory<BadFile>>
-    ensures { Answers (λ x. x) result (functions_part_at rest.entry) }
+    ensures { Answers (λ x. x) result (functions_part_at version rest.entry) }
 {
     let (count, rest) = u32_of(rest)?;
-    functions_of(alloc, count, Draft::new(alloc), rest)
+    functions_of(alloc, version, count, Draft::new(alloc), rest)
 }
 
 /// The externals behind their count.
@@ -152,25 +152,27 @@ fn externals_part_of<'a>(
 #[tactic(auto, unfolding(crate::specs::ObjectReading::parts_at))]
 fn parts_of<'a>(
     alloc: Global,
+    newest: Version,
     rest: Cursor<'a>,
-) -> Result<(Draft<'a>, Cursor<'a>), OrMemory<BadFile>>
-    ensures { Answers (λ x. x) result (parts_at rest.entry) }
+) -> Result<(Version, Draft<'a>, Cursor<'a>), OrMemory<BadFile>>
+    ensures { Answers (λ x. x) result (parts_at newest rest.entry) }
 {
-    let rest = opening_of(b"LROB", rest)?;
-    let (draft, rest) = functions_part_of(alloc, rest)?;
-    externals_part_of(alloc, draft, rest)
+    let (version, rest) = opening_of(newest, b"LROB", rest)?;
+    let (draft, rest) = functions_part_of(alloc, version, rest)?;
+    let (draft, rest) = externals_part_of(alloc, draft, rest)?;
+    Ok((version, draft, rest))
 }
 
 /// The first call without a callee, in functions of a file of which the first stands at this place.
-fn call_fault_of(callees: u64, at: u64, functions: &[ObjectFn]) -> Option<BadFile>
-    requires { at + length (flat_map unlinked_spelling functions.now) < 2 ^ 64 }
-    ensures { result ≡ call_fault_in callees at functions.now }
+fn call_fault_of(version: Version, callees: u64, at: u64, functions: &[ObjectFn]) -> Option<BadFile>
+    requires { at + length (flat_map (unlinked_spelling version) functions.now) < 2 ^ 64 }
+    ensures { result ≡ call_fault_in version callees at functions.now }
 {
     let mut place = at;
     for function in functions {
         let code = function.code();
-        let behind = place + 10 + function.symbol().len() as u64;
-        if let Some(fault) = fault_of(callees, behind, code) {
+        let behind = place + 5 + function.symbol().len() as u64 + version.code_offset();
+        if let Some(fault) = fault_of(Some(callees), behind, code) {
             return Some(fault);
         }
         place = behind + code.len() as u64;
@@ -178,31 +180,36 @@ fn call_fault_of(callees: u64, at: u64, functions: &[ObjectFn]) -> Option<BadFil
     None
 }
 
-#[tactic(auto, unfolding(crate::specs::ObjectReading::object_at))]
-fn object_of(alloc: Global, bytes: &[u8]) -> Result<Object, OrMemory<BadFile>>
-    ensures { Answers (λ x. x) result (object_at bytes.now) }
+/// The object that the bytes spell in a version that is none above the newest one that is taken.
+#[tactic(auto, unfolding(crate::specs::ObjectReading::object_up_to))]
+pub(crate) fn object_of(
+    alloc: Global,
+    newest: Version,
+    bytes: &[u8],
+) -> Result<Object, OrMemory<BadFile>>
+    ensures { Answers (λ x. x) result (object_up_to newest bytes.now) }
 {
-    let (draft, rest) = parts_of(alloc, Cursor { at: 0, bytes })?;
+    let (version, draft, rest) = parts_of(alloc, newest, Cursor { at: 0, bytes })?;
     end_of(rest)?;
     let (functions, externals) = draft.into_parts();
     let callees = functions.len() as u64 + externals.len() as u64;
-    if let Some(fault) = call_fault_of(callees, 10, functions.as_slice()) {
+    if let Some(fault) = call_fault_of(version, callees, 10, functions.as_slice()) {
         return Err(OrMemory::Refused(fault));
     }
     Ok(Object::new(functions, externals))
 }
 
-/// The object that the bytes spell, all of the bytes. A refusal names the first field, from left to right, that breaks its rule:
-/// a field that the end cuts, a magic or version that is another, a symbol that may not be one or stands twice, a kind that is none, a
-/// byte of code at which no instruction stands, bytes behind the last external; and where there is none, the first call without a
-/// callee.
+/// The object that the bytes spell in one of the versions, all of the bytes. A refusal names the first field, from left to right, that
+/// breaks its rule: a field that the end cuts, a magic or version that is another, a symbol that may not be one or stands twice, a kind
+/// that is none, a length of code beyond the version's limit, a byte of code at which no instruction stands, bytes behind the last
+/// external; and where there is none, the first call without a callee.
 pub fn read_object(alloc: Global, bytes: &[u8]) -> Result<Object, OrMemory<BadFile>>
     // What is read is spelled so.
-    ensures found { IfOk result (λ object. IsObject object × (bytes.now ≡ object_spelling object)) }
+    ensures found { IfOk result (λ object. SpellsObject bytes.now object) }
     // What is spelled so is read, unless memory runs out.
-    ensures only { (object : Unlinked) → IsObject object → bytes.now ≡ object_spelling object → Answers (λ x. x) result (Ok object) }
+    ensures only { (object : Unlinked) → SpellsObject bytes.now object → Answers (λ x. x) result (Ok object) }
     // Which fault it is.
     ensures exact { Answers (λ x. x) result (object_at bytes.now) }
 {
-    object_of(alloc, bytes)
+    object_of(alloc, Version::Two, bytes)
 }

@@ -1,10 +1,11 @@
-//! The one spelling of an object.
+//! The one spelling of an object, in the newest version.
 
 ghost use Rattle.std.specs.Prelude.{◌≡◌, ◌<◌, ◌^◌, ◌++◌, IfOk, OnOk, length};
 ghost use Rattle.std.specs.List.{AllByRecursion};
 ghost use Rattle.object_format.specs.Object.{IsSymbol, symbol_spelling, unlinked_spelling, functions_spelling, symbols_spelling, object_spelling};
+ghost use Rattle.object_format.specs.declared.version.Version.TheVariants.{Two};
 
-use crate::image_writing::write_function;
+use crate::image_writing::{bytes_with_room, write_function};
 use crate::{Object, ObjectFn};
 use lar_bytes::{Bytes, Text};
 use std::alloc::{AllocError, Global};
@@ -19,7 +20,7 @@ fn write_symbol(out: &mut Bytes, symbol: &Text) -> Result<(), AllocError>
 }
 
 fn write_named(out: &mut Bytes, function: &ObjectFn) -> Result<(), AllocError>
-    ensures { OnOk result (out.new ≡ out.old ++ unlinked_spelling function.now) }
+    ensures { OnOk result (out.new ≡ out.old ++ unlinked_spelling Two function.now) }
 {
     write_symbol(out, function.symbol())?;
     out.push(u8::from(function.is_external()))?;
@@ -29,7 +30,7 @@ fn write_named(out: &mut Bytes, function: &ObjectFn) -> Result<(), AllocError>
 /// The functions behind their count.
 fn write_functions(out: &mut Bytes, functions: &[ObjectFn]) -> Result<(), AllocError>
     requires { length functions.now < 2 ^ 32 }
-    ensures { OnOk result (out.new ≡ out.old ++ functions_spelling functions.now) }
+    ensures { OnOk result (out.new ≡ out.old ++ functions_spelling Two functions.now) }
 {
     let count = functions.len() as u32;
     out.append(&count.to_be_bytes())?;
@@ -53,11 +54,38 @@ fn write_externals(out: &mut Bytes, externals: &[Text]) -> Result<(), AllocError
     Ok(())
 }
 
+/// How many bytes functions have in an object's spelling, where a machine's number can say it.
+fn room_for(functions: &[ObjectFn]) -> usize {
+    let mut room = 0usize;
+    for function in functions {
+        let front = function.symbol().len().saturating_add(12);
+        room = room
+            .saturating_add(function.code().len())
+            .saturating_add(front);
+    }
+    room
+}
+
+/// How many bytes externals have there.
+fn room_for_externals(externals: &[Text]) -> usize {
+    let mut room = 0usize;
+    for external in externals {
+        room = room.saturating_add(external.len()).saturating_add(4);
+    }
+    room
+}
+
 /// The one spelling of an object.
 pub fn write_object(alloc: Global, object: &Object) -> Result<Bytes, AllocError>
     ensures { IfOk result (λ bytes. bytes ≡ object_spelling object.now) }
 {
-    let mut out = Bytes::copied(alloc, b"LROB\x00\x01")?;
+    let functions = room_for(object.functions());
+    let externals = room_for_externals(object.externals());
+    let mut out = bytes_with_room(
+        alloc,
+        functions.saturating_add(externals).saturating_add(14),
+    )?;
+    out.append(b"LROB\x00\x02")?;
     write_functions(&mut out, object.functions())?;
     write_externals(&mut out, object.externals())?;
     Ok(out)

@@ -1,9 +1,46 @@
 //! The opcodes of the stack machine.
 
 ghost use Rattle.std.specs.Prelude.{◌≡◌};
-ghost use Rattle.object_format.specs.Opcode.{row, opcode_of};
+ghost use Rattle.object_format.specs.Opcode.{row, opcode_of, operator_number};
 
-/// What an instruction does, in the order of the bytes that stand for it, from 1.
+/// What is made of two words, of which b is on top of a.
+#[derive(Clone, Copy, Debug, PartialEq, Eq)]
+pub enum Operator {
+    Add,
+    Sub,
+    Mul,
+    Div,
+    Rem,
+    Equal,
+    NotEqual,
+    Less,
+    AtMost,
+    Greater,
+    AtLeast,
+}
+
+impl Operator {
+    /// The byte of the instruction that computes it.
+    pub fn number(self) -> u8
+        ensures { result ≡ operator_number self }
+    {
+        match self {
+            Operator::Add => 0x06,
+            Operator::Sub => 0x07,
+            Operator::Mul => 0x08,
+            Operator::Div => 0x09,
+            Operator::Rem => 0x0a,
+            Operator::Equal => 0x0c,
+            Operator::NotEqual => 0x0d,
+            Operator::Less => 0x0e,
+            Operator::AtMost => 0x0f,
+            Operator::Greater => 0x10,
+            Operator::AtLeast => 0x11,
+        }
+    }
+}
+
+/// What an instruction does.
 #[derive(Clone, Copy, Debug, PartialEq, Eq)]
 pub enum Opcode {
     /// Pushes its operand, one signed byte.
@@ -16,18 +53,10 @@ pub enum Opcode {
     Store,
     /// Drops the top.
     Pop,
-    Add,
-    Sub,
-    Mul,
-    Div,
-    Rem,
+    /// Pops b and then a, and pushes what the operator makes of them.
+    Compute(Operator),
+    /// Pops, and pushes the opposite.
     Neg,
-    Equal,
-    NotEqual,
-    Less,
-    AtMost,
-    Greater,
-    AtLeast,
     /// 1 for 0, and 0 for all else.
     Not,
     /// Goes on at the offset that is its operand.
@@ -50,6 +79,7 @@ pub enum Opcode {
 
 impl Opcode {
     /// The opcode that a byte stands for.
+    #[inline(always)]
     pub fn of(byte: u8) -> Option<Opcode>
         ensures { result ≡ opcode_of byte }
     {
@@ -59,18 +89,18 @@ impl Opcode {
             0x03 => Some(Opcode::Load),
             0x04 => Some(Opcode::Store),
             0x05 => Some(Opcode::Pop),
-            0x06 => Some(Opcode::Add),
-            0x07 => Some(Opcode::Sub),
-            0x08 => Some(Opcode::Mul),
-            0x09 => Some(Opcode::Div),
-            0x0a => Some(Opcode::Rem),
+            0x06 => Some(Opcode::Compute(Operator::Add)),
+            0x07 => Some(Opcode::Compute(Operator::Sub)),
+            0x08 => Some(Opcode::Compute(Operator::Mul)),
+            0x09 => Some(Opcode::Compute(Operator::Div)),
+            0x0a => Some(Opcode::Compute(Operator::Rem)),
             0x0b => Some(Opcode::Neg),
-            0x0c => Some(Opcode::Equal),
-            0x0d => Some(Opcode::NotEqual),
-            0x0e => Some(Opcode::Less),
-            0x0f => Some(Opcode::AtMost),
-            0x10 => Some(Opcode::Greater),
-            0x11 => Some(Opcode::AtLeast),
+            0x0c => Some(Opcode::Compute(Operator::Equal)),
+            0x0d => Some(Opcode::Compute(Operator::NotEqual)),
+            0x0e => Some(Opcode::Compute(Operator::Less)),
+            0x0f => Some(Opcode::Compute(Operator::AtMost)),
+            0x10 => Some(Opcode::Compute(Operator::Greater)),
+            0x11 => Some(Opcode::Compute(Operator::AtLeast)),
             0x12 => Some(Opcode::Not),
             0x13 => Some(Opcode::Jump),
             0x14 => Some(Opcode::JumpZero),
@@ -94,18 +124,8 @@ impl Opcode {
             Opcode::Load => 0x03,
             Opcode::Store => 0x04,
             Opcode::Pop => 0x05,
-            Opcode::Add => 0x06,
-            Opcode::Sub => 0x07,
-            Opcode::Mul => 0x08,
-            Opcode::Div => 0x09,
-            Opcode::Rem => 0x0a,
+            Opcode::Compute(operator) => operator.number(),
             Opcode::Neg => 0x0b,
-            Opcode::Equal => 0x0c,
-            Opcode::NotEqual => 0x0d,
-            Opcode::Less => 0x0e,
-            Opcode::AtMost => 0x0f,
-            Opcode::Greater => 0x10,
-            Opcode::AtLeast => 0x11,
             Opcode::Not => 0x12,
             Opcode::Jump => 0x13,
             Opcode::JumpZero => 0x14,
@@ -119,6 +139,7 @@ impl Opcode {
     }
 
     /// How many bytes of operand stand behind it.
+    #[inline(always)]
     pub fn operand_len(self) -> usize
         ensures { result ≡ (row self).operand }
     {

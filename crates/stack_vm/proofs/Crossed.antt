@@ -3,7 +3,7 @@ use Rattle.std.proofs.Common.{◌≡◌, ℕ, ◌+◌, List, [], ◌∷◌, ◌+
 use Rattle.object_format.specs.Image.{LinkedFn}
 use Rattle.stack_vm.specs.Heights.{left_by, jumps_to, first_at}
 use Rattle.stack_vm.specs.Faults.{brings_other, is_crossed, height_at}
-use Rattle.stack_vm.specs.declared.instruction.Placed.{Placed}
+use Rattle.stack_vm.specs.declared.operation.Placed.{Placed}
 
 or_nothing : (a : Bool) → (a || false) ≡ a
 or_nothing true = refl
@@ -14,9 +14,9 @@ or_last true b c = refl
 or_last false b c = refl
 
 pub crossed_more : (fs : List LinkedFn) (hs : List (ℕ × ℕ)) (t : ℕ) (ps : List Placed) (p : Placed)
-    → is_crossed fs hs t (ps ++ p ∷ []) ≡ (is_crossed fs hs t ps || brings_other (jumps_to p.instruction) (left_by fs p.instruction (height_at hs p.offset)) (first_at hs t) t)
+    → is_crossed fs hs t (ps ++ p ∷ []) ≡ (is_crossed fs hs t ps || brings_other (jumps_to p.operation) (left_by fs p.operation (height_at hs p.offset)) (first_at hs t) t)
 crossed_more fs hs t [] p = or_nothing _
 crossed_more fs hs t (q ∷ ps) p =
-    let first = brings_other (jumps_to q.instruction) (left_by fs q.instruction (height_at hs q.offset)) (first_at hs t) t in
-    let last = brings_other (jumps_to p.instruction) (left_by fs p.instruction (height_at hs p.offset)) (first_at hs t) t in
+    let first = brings_other (jumps_to q.operation) (left_by fs q.operation (height_at hs q.offset)) (first_at hs t) t in
+    let last = brings_other (jumps_to p.operation) (left_by fs p.operation (height_at hs p.offset)) (first_at hs t) t in
     ap (λ (b : Bool). first || b) (crossed_more fs hs t ps p) ∙ or_last first (is_crossed fs hs t ps) last

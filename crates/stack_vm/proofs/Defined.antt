@@ -6,14 +6,14 @@ use Rattle.std.proofs.lemmas.Bool.{lt-ltb, le-leb, le-ltb, cases_Bool}
 use Rattle.std.proofs.lemmas.List.{length-take, length-replicate}
 use Rattle.std.proofs.lemmas.Option.{slice_get-get_or}
 use Rattle.object_format.specs.Image.{LinkedFn}
-use Rattle.stack_vm.specs.Instruction.{size, takes}
+use Rattle.stack_vm.specs.Operation.{size, takes}
 use Rattle.stack_vm.specs.Heights.{greatest_of}
 use Rattle.stack_vm.specs.Sound.{At, Leaves, IsFine, IsSound, AllSound}
-use Rattle.stack_vm.specs.Words.{quotient, remainder}
+use Rattle.stack_vm.specs.Words.{computed}
 use Rattle.stack_vm.specs.Effect.{under, alone, pushes, goes_on}
 use Rattle.stack_vm.specs.Acts.{Act, Outcome, Goes, Ends, Traps, Stuck, slots_after, has_slot, pushing, staying, words_of, calling, returning, obey, step, Ran, after_text, trap_at, turn, runs, begun_at, runs_from}
-use Rattle.stack_vm.specs.declared.instruction.Instruction.{Instruction}
-use Rattle.stack_vm.specs.declared.instruction.Instruction.TheVariants.{Push8, Push64, Load, Store, Pop, Dup, Nop, Add, Sub, Mul, Div, Rem, Neg, Equal, NotEqual, Less, AtMost, Greater, AtLeast, Not, Jump, JumpZero, Call, Return, Print, Trap}
+use Rattle.stack_vm.specs.declared.operation.Operation.{Operation}
+use Rattle.stack_vm.specs.declared.operation.Operation.TheVariants.{Push8, Push64, Load, Store, Pop, Dup, Nop, Compute, Neg, Not, Jump, JumpZero, Call, Return, Print, Trap}
 use Rattle.stack_vm.specs.declared.end.Kind.{Kind}
 use Rattle.stack_vm.specs.declared.end.Kind.TheVariants as kinds
 use Rattle.stack_vm.specs.declared.end.End.TheVariants as end
@@ -44,7 +44,7 @@ Leads fs Stuck = ⊥
 
 -- ---- an instruction that stays in its function
 
-slots_kept : (i : Instruction) (slots : List ℤ) (b : ℤ) → length (slots_after i slots b) ≡ length slots
+slots_kept : (i : Operation) (slots : List ℤ) (b : ℤ) → length (slots_after i slots b) ≡ length slots
 slots_kept (Store s) slots b = length-set slots s b
 slots_kept i slots b = refl
 
@@ -57,7 +57,7 @@ pushes_alone : (r : Result ℤ Kind) → Pushes (alone r) 1
 pushes_alone (Ok x) = refl
 pushes_alone (Err kind) = tt
 
-pushed_on : (fs : List LinkedFn) (f : LinkedFn) (i : Instruction) (a : Act) (rest : List Act) (n : ℕ) (r : Result (List ℤ) Kind)
+pushed_on : (fs : List LinkedFn) (f : LinkedFn) (i : Operation) (a : Act) (rest : List Act) (n : ℕ) (r : Result (List ℤ) Kind)
     → Works fs a f (length a.operands) → Wait fs f.«result» rest → Pushes r n → At fs f (goes_on i a.place (under a.operands 0)) ((length a.operands - takes i) + n) → Leads fs (pushing i a rest r)
 pushed_on fs f i a rest n (Err kind) w wait long next = tt
 pushed_on fs f i a rest n (Ok pushed) w wait long next =
@@ -71,7 +71,7 @@ pushed_on fs f i a rest n (Ok pushed) w wait long next =
       wait,
     )
 
-stays_on : (fs : List LinkedFn) (f : LinkedFn) (i : Instruction) (a : Act) (rest : List Act) (n : ℕ)
+stays_on : (fs : List LinkedFn) (f : LinkedFn) (i : Operation) (a : Act) (rest : List Act) (n : ℕ)
     → Works fs a f (length a.operands) → Wait fs f.«result» rest → takes i ≤ length a.operands → has_slot i (length a.slots) ≡ true
     → Pushes (pushes i a.slots (under a.operands 1) (under a.operands 0)) n
     → At fs f (goes_on i a.place (under a.operands 0)) ((length a.operands - takes i) + n) → Leads fs (staying i a rest)
@@ -80,7 +80,7 @@ stays_on fs f i a rest n w wait enough slot long next =
     rw (there, slot) (pushed_on fs f i a rest n (pushes i a.slots (under a.operands 1) (under a.operands 0)) w wait long next)
 
 -- where the height is the one that is left
-inner : (fs : List LinkedFn) (f : LinkedFn) (i : Instruction) (a : Act) (rest : List Act) (n place : ℕ)
+inner : (fs : List LinkedFn) (f : LinkedFn) (i : Operation) (a : Act) (rest : List Act) (n place : ℕ)
     → Works fs a f (length a.operands) → Wait fs f.«result» rest → has_slot i (length a.slots) ≡ true → Leaves fs f place (length a.operands) (takes i) n
     → Pushes (pushes i a.slots (under a.operands 1) (under a.operands 0)) n → place ≡ goes_on i a.place (under a.operands 0) → Leads fs (staying i a rest)
 inner fs f i a rest n place w wait slot l long is =
@@ -130,7 +130,7 @@ returns_on fs f a (b ∷ bs) wait height =
 
 -- ---- a step
 
-obeys : (fs : List LinkedFn) (f : LinkedFn) (i : Instruction) (a : Act) (rest : List Act) → AllSound fs → Works fs a f (length a.operands) → Wait fs f.«result» rest
+obeys : (fs : List LinkedFn) (f : LinkedFn) (i : Operation) (a : Act) (rest : List Act) → AllSound fs → Works fs a f (length a.operands) → Wait fs f.«result» rest
     → IsFine fs f a.place (length a.operands) i → Leads fs (obey fs (Some i) a rest)
 obeys fs f (Push8 x) a rest all w wait l = inner fs f (Push8 x) a rest 1 (a.place + 2) w wait refl l refl refl
 obeys fs f (Push64 x) a rest all w wait l = inner fs f (Push64 x) a rest 1 (a.place + 9) w wait refl l refl refl
@@ -139,18 +139,8 @@ obeys fs f (Store s) a rest all w wait l = inner fs f (Store s) a rest 0 (a.plac
 obeys fs f Pop a rest all w wait l = inner fs f Pop a rest 0 (a.place + 1) w wait refl l refl refl
 obeys fs f Dup a rest all w wait l = inner fs f Dup a rest 2 (a.place + 1) w wait refl l refl refl
 obeys fs f Nop a rest all w wait l = inner fs f Nop a rest 0 (a.place + 1) w wait refl l refl refl
-obeys fs f Add a rest all w wait l = inner fs f Add a rest 1 (a.place + 1) w wait refl l refl refl
-obeys fs f Sub a rest all w wait l = inner fs f Sub a rest 1 (a.place + 1) w wait refl l refl refl
-obeys fs f Mul a rest all w wait l = inner fs f Mul a rest 1 (a.place + 1) w wait refl l refl refl
-obeys fs f Div a rest all w wait l = inner fs f Div a rest 1 (a.place + 1) w wait refl l (pushes_alone (quotient (under a.operands 1) (under a.operands 0))) refl
-obeys fs f Rem a rest all w wait l = inner fs f Rem a rest 1 (a.place + 1) w wait refl l (pushes_alone (remainder (under a.operands 1) (under a.operands 0))) refl
+obeys fs f (Compute o) a rest all w wait l = inner fs f (Compute o) a rest 1 (a.place + 1) w wait refl l (pushes_alone (computed o (under a.operands 1) (under a.operands 0))) refl
 obeys fs f Neg a rest all w wait l = inner fs f Neg a rest 1 (a.place + 1) w wait refl l refl refl
-obeys fs f Equal a rest all w wait l = inner fs f Equal a rest 1 (a.place + 1) w wait refl l refl refl
-obeys fs f NotEqual a rest all w wait l = inner fs f NotEqual a rest 1 (a.place + 1) w wait refl l refl refl
-obeys fs f Less a rest all w wait l = inner fs f Less a rest 1 (a.place + 1) w wait refl l refl refl
-obeys fs f AtMost a rest all w wait l = inner fs f AtMost a rest 1 (a.place + 1) w wait refl l refl refl
-obeys fs f Greater a rest all w wait l = inner fs f Greater a rest 1 (a.place + 1) w wait refl l refl refl
-obeys fs f AtLeast a rest all w wait l = inner fs f AtLeast a rest 1 (a.place + 1) w wait refl l refl refl
 obeys fs f Not a rest all w wait l = inner fs f Not a rest 1 (a.place + 1) w wait refl l refl refl
 obeys fs f Print a rest all w wait l = inner fs f Print a rest 0 (a.place + 1) w wait refl l refl refl
 obeys fs f Trap a rest all w wait l = stays_trap fs a rest

@@ -2,11 +2,13 @@ pub mod Crossed
 pub mod Defined
 pub mod FirstFault
 pub mod Frames
+pub mod Laws
 pub mod Listing
 pub mod Loop
 pub mod Measuring
 pub mod Moves
 pub mod Offsets
+pub mod Operands
 pub mod Parts
 pub mod Places
 pub mod Showing

@@ -6,7 +6,7 @@ use Rattle.std.proofs.lemmas.List.{length-take, take-take, take-append-le, rever
 use Rattle.object_format.specs.Image.{LinkedFn}
 use Rattle.outside.specs.Counts.{Rose}
 use Rattle.outside.specs.Fronts.{AppendsFront}
-use Rattle.stack_vm.specs.Instruction.{instruction_at}
+use Rattle.stack_vm.specs.Operation.{operation_at}
 use Rattle.stack_vm.specs.Effect.{under, is_print, Did}
 use Rattle.stack_vm.specs.Sound.{IsFine}
 use Rattle.stack_vm.specs.Standing.{height, Stands, Called, TooDeep, waiting, resumed}
@@ -17,8 +17,8 @@ use Rattle.stack_vm.specs.declared.end.Kind.{Kind}
 use Rattle.stack_vm.specs.declared.end.Kind.TheVariants as kinds
 use Rattle.stack_vm.specs.declared.end.End.{End}
 use Rattle.stack_vm.specs.declared.end.End.TheVariants as end
-use Rattle.stack_vm.specs.declared.instruction.Instruction.{Instruction}
-use Rattle.stack_vm.specs.declared.instruction.Instruction.TheVariants.{Call, Return, Print}
+use Rattle.stack_vm.specs.declared.operation.Operation.{Operation}
+use Rattle.stack_vm.specs.declared.operation.Operation.TheVariants.{Call, Return, Print}
 use Rattle.stack_vm.specs.declared.machine.State.{State}
 use Rattle.stack_vm.specs.declared.machine.Frame.{Frame}
 use Rattle.stack_vm.specs.declared.machine.Next.TheVariants as next
@@ -114,7 +114,7 @@ faults_since old new newer put told same = same ∙ ap (λ (n : SinkState). n.fa
 
 -- ---- steps
 
-prints-none : (i : Instruction) (b : ℤ) → is_print i ≡ false → prints i b ≡ []
+prints-none : (i : Operation) (b : ℤ) → is_print i ≡ false → prints i b ≡ []
 prints-none Print b e = absurd cc
 prints-none i b e = refl
 
@@ -122,8 +122,8 @@ acts_same : (fs : List LinkedFn) (f : LinkedFn) (t : State) (frames : List Frame
 acts_same fs f t frames W U now e = ap (λ (x : List ℤ). act f.slots t now ∷ seen fs (reverse frames) x) e
 
 -- an instruction that stays in its function
-pub steps_on : (fs : List LinkedFn) (f : LinkedFn) (s t : State) (frames : List Frame) (V now : List ℤ) (i : Instruction)
-    → slice_get fs s.number ≡ Some f → instruction_at f.code s.place ≡ Some i → IsFine fs f s.place (height f s) i → length V ≡ s.top → s.base + f.slots ≤ s.top → Did V s i (next.Went t) now
+pub steps_on : (fs : List LinkedFn) (f : LinkedFn) (s t : State) (frames : List Frame) (V now : List ℤ) (i : Operation)
+    → slice_get fs s.number ≡ Some f → operation_at f.code s.place ≡ Some i → IsFine fs f s.place (height f s) i → length V ≡ s.top → s.base + f.slots ≤ s.top → Did V s i (next.Went t) now
     → (step fs (acts fs f s frames V) ≡ Goes (acts fs f t frames now) []) × (take t.base now ≡ take s.base V)
 steps_on fs f s t frames V now i is at fine long above d =
     let room = fine_room fs f s.place (height f s) i fine d.3 in
@@ -142,13 +142,13 @@ pub counted_same : (fs : List LinkedFn) (frames : List Frame) (W U : List ℤ) (
 counted_same fs frames W U a b c e d = rw (e, d) c
 
 -- the instruction that prints
-pub prints_on : (fs : List LinkedFn) (f : LinkedFn) (s t : State) (frames : List Frame) (V now : List ℤ) (i : Instruction) (x : ℤ)
-    → slice_get fs s.number ≡ Some f → instruction_at f.code s.place ≡ Some i → IsFine fs f s.place (height f s) i → length V ≡ s.top → s.base + f.slots ≤ s.top → Did V s i (next.Print t x) now
+pub prints_on : (fs : List LinkedFn) (f : LinkedFn) (s t : State) (frames : List Frame) (V now : List ℤ) (i : Operation) (x : ℤ)
+    → slice_get fs s.number ≡ Some f → operation_at f.code s.place ≡ Some i → IsFine fs f s.place (height f s) i → length V ≡ s.top → s.base + f.slots ≤ s.top → Did V s i (next.Print t x) now
     → (step fs (acts fs f s frames V) ≡ Goes (acts fs f t frames now) (line_of x)) × (take t.base now ≡ take s.base V)
 prints_on fs f s t frames V now i x is at fine long above d =
     let rest = seen fs (reverse frames) (take s.base V) in
-    let at_print : instruction_at f.code s.place ≡ Some Print = at ∙ ap (λ (j : Instruction). Some j) d.0 in
-    let fine_print : IsFine fs f s.place (height f s) Print = subst (λ (j : Instruction). IsFine fs f s.place (height f s) j) d.0 fine in
+    let at_print : operation_at f.code s.place ≡ Some Print = at ∙ ap (λ (j : Operation). Some j) d.0 in
+    let fine_print : IsFine fs f s.place (height f s) Print = subst (λ (j : Operation). IsFine fs f s.place (height f s) j) d.0 fine in
     let there : 1 ≤ height f s = fine_print.there in
     let words : now ≡ take (length V - 1) V ++ [] = d.2 ∙ sym (append-nil (take (length V - 1) V)) in
     let front : take t.base now ≡ take s.base V = rw (d.3.1, d.2) (take-take s.base (length V - 1) V (omega (arith, there, long, above))) in
@@ -156,15 +156,15 @@ prints_on fs f s t frames V now i x is at fine long above d =
     rw (is, at_print) (stays Print f.slots s t V now [] rest (omega (arith, there, long, above)) refl refl words d.3.0 d.3.1 d.3.3) in
     (moved ∙ ap (λ (y : ℤ). Goes (act f.slots t now ∷ rest) (line_of y)) (sym d.1) ∙ ap (λ (all : List Act). Goes all (line_of x)) (acts_same fs f t frames _ _ now (sym front)), front)
 
-step_call : (fs : List LinkedFn) (f g : LinkedFn) (s : State) (V : List ℤ) (rest : List Act) (i : Instruction) (k : ℕ)
-    → slice_get fs s.number ≡ Some f → instruction_at f.code s.place ≡ Some i → i ≡ Call k → slice_get fs k ≡ Some g → step fs (act f.slots s V ∷ rest) ≡ calling fs k (Some g) (act f.slots s V) rest
+step_call : (fs : List LinkedFn) (f g : LinkedFn) (s : State) (V : List ℤ) (rest : List Act) (i : Operation) (k : ℕ)
+    → slice_get fs s.number ≡ Some f → operation_at f.code s.place ≡ Some i → i ≡ Call k → slice_get fs k ≡ Some g → step fs (act f.slots s V ∷ rest) ≡ calling fs k (Some g) (act f.slots s V) rest
 step_call fs f g s V rest i k is at called there =
-    let at_call : instruction_at f.code s.place ≡ Some (Call k) = at ∙ ap (λ (j : Instruction). Some j) called in
+    let at_call : operation_at f.code s.place ≡ Some (Call k) = at ∙ ap (λ (j : Operation). Some j) called in
     rw (is, at_call, there) refl
 
 -- a call that is not too deep
-pub calls_on : (fs : List LinkedFn) (f g : LinkedFn) (k : ℕ) (s t : State) (frames more : List Frame) (V now : List ℤ) (i : Instruction)
-    → slice_get fs s.number ≡ Some f → instruction_at f.code s.place ≡ Some i → i ≡ Call k → slice_get fs k ≡ Some g → length V ≡ s.top → s.base + f.slots ≤ s.top → g.params ≤ height f s → g.params ≤ g.slots
+pub calls_on : (fs : List LinkedFn) (f g : LinkedFn) (k : ℕ) (s t : State) (frames more : List Frame) (V now : List ℤ) (i : Operation)
+    → slice_get fs s.number ≡ Some f → operation_at f.code s.place ≡ Some i → i ≡ Call k → slice_get fs k ≡ Some g → length V ≡ s.top → s.base + f.slots ≤ s.top → g.params ≤ height f s → g.params ≤ g.slots
     → Counted fs (reverse frames) (take s.base V) s.below → Called fs g f k s t V now frames more
     → (step fs (acts fs f s frames V) ≡ Goes (acts fs g t more now) []) × Counted fs (reverse more) (take t.base now) t.below
 calls_on fs f g k s t frames more V now i is at called there long above enough params counted d =
@@ -183,13 +183,13 @@ calls_on fs f g k s t frames more V now i is at called there long above enough p
     (stepped, rw (order, front, below) waits)
 
 -- a return to a function that waits
-pub returns_on : (fs : List LinkedFn) (f h : LinkedFn) (s t : State) (frames more : List Frame) (b : Frame) (V now : List ℤ) (i : Instruction)
-    → slice_get fs s.number ≡ Some f → instruction_at f.code s.place ≡ Some i → i ≡ Return → length V ≡ s.top → s.base + f.slots ≤ s.top → height f s ≡ f.«result»
+pub returns_on : (fs : List LinkedFn) (f h : LinkedFn) (s t : State) (frames more : List Frame) (b : Frame) (V now : List ℤ) (i : Operation)
+    → slice_get fs s.number ≡ Some f → operation_at f.code s.place ≡ Some i → i ≡ Return → length V ≡ s.top → s.base + f.slots ≤ s.top → height f s ≡ f.«result»
     → frames ≡ more ++ b ∷ [] → slice_get fs b.number ≡ Some h → b.base + h.slots ≤ s.base → t ≡ resumed f s b → now ≡ take s.base V ++ drop (length V - f.«result») V
     → Counted fs (reverse frames) (take s.base V) s.below
     → (step fs (acts fs f s frames V) ≡ Goes (acts fs h t more now) []) × Counted fs (reverse more) (take t.base now) t.below
 returns_on fs f h s t frames more b V now i is at returned long above leaves split there room state words counted =
-    let at_return : instruction_at f.code s.place ≡ Some Return = at ∙ ap (λ (j : Instruction). Some j) returned in
+    let at_return : operation_at f.code s.place ≡ Some Return = at ∙ ap (λ (j : Operation). Some j) returned in
     let order : reverse frames ≡ b ∷ reverse more = ap reverse split ∙ reverse-append more (b ∷ []) in
     let rest = seen fs (b ∷ reverse more) (take s.base V) in
     let front : take b.base now ≡ take b.base (take s.base V) = rw words (take-append-le b.base (take s.base V) (drop (length V - f.«result») V) (omega (arith, length-take s.base V, room, long, above))) in
@@ -199,10 +199,10 @@ returns_on fs f h s t frames more b V now i is at returned long above leaves spl
     rw (order, state) (stepped, counted_same fs (reverse more) (take b.base now) (take b.base (take s.base V)) b.below b.below waits.1 front refl)
 
 -- the entry's return
-pub returns_last : (fs : List LinkedFn) (f : LinkedFn) (s : State) (frames : List Frame) (V : List ℤ) (i : Instruction) → slice_get fs s.number ≡ Some f → instruction_at f.code s.place ≡ Some i → i ≡ Return → frames ≡ []
+pub returns_last : (fs : List LinkedFn) (f : LinkedFn) (s : State) (frames : List Frame) (V : List ℤ) (i : Operation) → slice_get fs s.number ≡ Some f → operation_at f.code s.place ≡ Some i → i ≡ Return → frames ≡ []
     → step fs (acts fs f s frames V) ≡ Ends
 returns_last fs f s frames V i is at returned none =
-    let at_return : instruction_at f.code s.place ≡ Some Return = at ∙ ap (λ (j : Instruction). Some j) returned in
+    let at_return : operation_at f.code s.place ≡ Some Return = at ∙ ap (λ (j : Operation). Some j) returned in
     rw (is, at_return, none) refl
 
 pub run_ended : (fs : List LinkedFn) (f : LinkedFn) (s : State) (frames : List Frame) (V : List ℤ) (left rest : ℕ) → left ≡ suc rest → step fs (acts fs f s frames V) ≡ Ends → runs fs left (acts fs f s frames V) ≡ Some (record { how = end.Ended; text = [] })
@@ -215,8 +215,8 @@ run_trapped fs f s frames V left rest kind e st = ap (λ (n : ℕ). runs fs n (a
 pub run_over : (fs : List LinkedFn) (f : LinkedFn) (s : State) (frames : List Frame) (V : List ℤ) (left : ℕ) → left ≡ 0 → runs fs left (acts fs f s frames V) ≡ Some (record { how = end.OutOfSteps; text = [] })
 run_over fs f s frames V left e = ap (λ (n : ℕ). runs fs n (acts fs f s frames V)) e
 
-pub deep_on : (fs : List LinkedFn) (f g : LinkedFn) (k : ℕ) (s : State) (frames : List Frame) (V : List ℤ) (i : Instruction)
-    → slice_get fs s.number ≡ Some f → instruction_at f.code s.place ≡ Some i → i ≡ Call k → slice_get fs k ≡ Some g → length V ≡ s.top → s.base + f.slots ≤ s.top → g.params ≤ height f s
+pub deep_on : (fs : List LinkedFn) (f g : LinkedFn) (k : ℕ) (s : State) (frames : List Frame) (V : List ℤ) (i : Operation)
+    → slice_get fs s.number ≡ Some f → operation_at f.code s.place ≡ Some i → i ≡ Call k → slice_get fs k ≡ Some g → length V ≡ s.top → s.base + f.slots ≤ s.top → g.params ≤ height f s
     → Counted fs (reverse frames) (take s.base V) s.below → TooDeep fs g f s (length frames) → step fs (acts fs f s frames V) ≡ Traps kinds.Depth
 deep_on fs f g k s frames V i is at called there long above enough counted deep =
     step_call fs f g s V (seen fs (reverse frames) (take s.base V)) i k is at called there ∙ too_deep fs f g k s V frames long (omega (arith, long, above, enough)) (counted_is fs (reverse frames) (take s.base V) s.below counted) deep

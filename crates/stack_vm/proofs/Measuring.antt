@@ -3,7 +3,7 @@ use Rattle.std.proofs.Common.{◌≡◌, ℕ, ◌+◌, ◌<◌, ◌≤◌, List,
 use Rattle.std.specs.Prelude.{max}
 use Rattle.object_format.specs.Image.{LinkedFn}
 use Rattle.stack_vm.specs.Heights.{first_at, as_number, Shows, Before, here, next, reached, heights, greatest}
-use Rattle.stack_vm.specs.declared.instruction.Placed.{Placed}
+use Rattle.stack_vm.specs.declared.operation.Placed.{Placed}
 
 -- one more instruction
 pub reached_more : (fs : List LinkedFn) (b : Before) (ps : List Placed) (p : Placed) → reached fs b (ps ++ p ∷ []) ≡ next fs (reached fs b ps) p

@@ -1,20 +1,20 @@
 -- A step that stays in its function, from the stack to the acts.
 use Rattle.std.proofs.Common.{◌≡◌, ℕ, ◌+◌, ◌≤◌, List, ◌∷◌, length, slice_get, ℤ, true, Some, refl, arith, ◌∙◌}
-use Rattle.stack_vm.specs.Instruction.{takes, instruction_at}
+use Rattle.stack_vm.specs.Operation.{takes, operation_at}
 use Rattle.stack_vm.specs.Effect.{under, is_inner, Did}
 use Rattle.stack_vm.specs.Sound.{IsFine}
 use Rattle.stack_vm.specs.Standing.{height}
 use Rattle.stack_vm.specs.Running.{act}
 use Rattle.stack_vm.specs.Acts.{Act, Goes, staying, obey, step, prints, has_slot}
 use Rattle.stack_vm.proofs.Stays.{stays, below_is}
-use Rattle.stack_vm.specs.declared.instruction.Instruction.{Instruction}
-use Rattle.stack_vm.specs.declared.instruction.Instruction.TheVariants.{Push8, Push64, Load, Store, Pop, Dup, Nop, Add, Sub, Mul, Div, Rem, Neg, Equal, NotEqual, Less, AtMost, Greater, AtLeast, Not, Jump, JumpZero, Call, Return, Print, Trap}
+use Rattle.stack_vm.specs.declared.operation.Operation.{Operation}
+use Rattle.stack_vm.specs.declared.operation.Operation.TheVariants.{Push8, Push64, Load, Store, Pop, Dup, Nop, Compute, Neg, Not, Jump, JumpZero, Call, Return, Print, Trap}
 use Rattle.object_format.specs.Image.{LinkedFn}
 use Rattle.stack_vm.specs.declared.machine.State.{State}
 use Rattle.stack_vm.specs.declared.machine.Next.TheVariants as next
 
 -- an instruction that is fine finds its words and its slot
-pub fine_room : (fs : List LinkedFn) (f : LinkedFn) (place h : ℕ) (i : Instruction) → IsFine fs f place h i → is_inner i ≡ true → (takes i ≤ h) × (has_slot i f.slots ≡ true)
+pub fine_room : (fs : List LinkedFn) (f : LinkedFn) (place h : ℕ) (i : Operation) → IsFine fs f place h i → is_inner i ≡ true → (takes i ≤ h) × (has_slot i f.slots ≡ true)
 fine_room fs f place h (Push8 n) fine e = (omega arith, refl)
 fine_room fs f place h (Push64 n) fine e = (omega arith, refl)
 fine_room fs f place h Nop fine e = (omega arith, refl)
@@ -27,22 +27,12 @@ fine_room fs f place h Dup fine e = (fine.there, refl)
 fine_room fs f place h Neg fine e = (fine.there, refl)
 fine_room fs f place h Not fine e = (fine.there, refl)
 fine_room fs f place h Print fine e = (fine.there, refl)
-fine_room fs f place h Add fine e = (fine.there, refl)
-fine_room fs f place h Sub fine e = (fine.there, refl)
-fine_room fs f place h Mul fine e = (fine.there, refl)
-fine_room fs f place h Div fine e = (fine.there, refl)
-fine_room fs f place h Rem fine e = (fine.there, refl)
-fine_room fs f place h Equal fine e = (fine.there, refl)
-fine_room fs f place h NotEqual fine e = (fine.there, refl)
-fine_room fs f place h Less fine e = (fine.there, refl)
-fine_room fs f place h AtMost fine e = (fine.there, refl)
-fine_room fs f place h Greater fine e = (fine.there, refl)
-fine_room fs f place h AtLeast fine e = (fine.there, refl)
+fine_room fs f place h (Compute o) fine e = (fine.there, refl)
 fine_room fs f place h (JumpZero to) fine e = (fine.0, refl)
 fine_room fs f place h (Call k) fine e = absurd (cc)
 fine_room fs f place h Return fine e = absurd (cc)
 
-pub obey_inner : (fs : List LinkedFn) (i : Instruction) (a : Act) (rest : List Act) → is_inner i ≡ true → obey fs (Some i) a rest ≡ staying i a rest
+pub obey_inner : (fs : List LinkedFn) (i : Operation) (a : Act) (rest : List Act) → is_inner i ≡ true → obey fs (Some i) a rest ≡ staying i a rest
 obey_inner fs (Push8 n) a rest e = refl
 obey_inner fs (Push64 n) a rest e = refl
 obey_inner fs (Load k) a rest e = refl
@@ -50,18 +40,8 @@ obey_inner fs (Store k) a rest e = refl
 obey_inner fs Pop a rest e = refl
 obey_inner fs Dup a rest e = refl
 obey_inner fs Nop a rest e = refl
-obey_inner fs Add a rest e = refl
-obey_inner fs Sub a rest e = refl
-obey_inner fs Mul a rest e = refl
-obey_inner fs Div a rest e = refl
-obey_inner fs Rem a rest e = refl
+obey_inner fs (Compute o) a rest e = refl
 obey_inner fs Neg a rest e = refl
-obey_inner fs Equal a rest e = refl
-obey_inner fs NotEqual a rest e = refl
-obey_inner fs Less a rest e = refl
-obey_inner fs AtMost a rest e = refl
-obey_inner fs Greater a rest e = refl
-obey_inner fs AtLeast a rest e = refl
 obey_inner fs Not a rest e = refl
 obey_inner fs (Jump to) a rest e = refl
 obey_inner fs (JumpZero to) a rest e = refl
@@ -71,8 +51,8 @@ obey_inner fs (Call k) a rest e = absurd (cc)
 obey_inner fs Return a rest e = absurd (cc)
 
 -- a step that stays in its function, from the stack to the acts
-pub moves : (fs : List LinkedFn) (f : LinkedFn) (s t : State) (V now : List ℤ) (i : Instruction) (rest : List Act)
-    → slice_get fs s.number ≡ Some f → instruction_at f.code s.place ≡ Some i → IsFine fs f s.place (height f s) i → length V ≡ s.top → s.base + f.slots ≤ s.top
+pub moves : (fs : List LinkedFn) (f : LinkedFn) (s t : State) (V now : List ℤ) (i : Operation) (rest : List Act)
+    → slice_get fs s.number ≡ Some f → operation_at f.code s.place ≡ Some i → IsFine fs f s.place (height f s) i → length V ≡ s.top → s.base + f.slots ≤ s.top
     → Did V s i (next.Went t) now → step fs (act f.slots s V ∷ rest) ≡ Goes (act f.slots t now ∷ rest) (prints i (under V 0))
 moves fs f s t V now i rest is at fine long above d =
     let r = fine_room fs f s.place (height f s) i fine d.3 in

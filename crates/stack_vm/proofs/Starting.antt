@@ -5,6 +5,8 @@ use Rattle.std.specs.Io.KnownBytes.{append_known}
 use Rattle.std.proofs.lemmas.List.{take_all, drop_all, length-replicate}
 use Rattle.object_format.specs.Code.{IsLinkedCode}
 use Rattle.object_format.specs.Image.{LinkedFn, Linked, IsLinked, IsLinkedFn}
+use Rattle.object_format.specs.Version.{code_offset, functions_place}
+use Rattle.object_format.specs.declared.version.Version.{Version}
 use Rattle.object_format.proofs.CodeFaults.{or_later-none}
 use Rattle.outside.specs.Counts.{Rose}
 use Rattle.outside.specs.Fronts.{AppendsFront}
@@ -24,21 +26,21 @@ use Rattle.stack_vm.proofs.Frames.{the_same}
 use Rattle.stack_vm.proofs.Soundness.{sound_function}
 use Rattle.stack_vm.proofs.Texts.{append_known-append}
 
-functions_sound : (fs : List LinkedFn) (at : ℕ) (gs : List LinkedFn) → functions_fault fs at gs ≡ None → AllByRecursion (λ f. IsLinkedCode (length fs) f.code) gs → (k : ℕ) (f : LinkedFn) → slice_get gs k ≡ Some f → IsSound fs f
-functions_sound fs at [] e linked k f is = absurd cc
-functions_sound fs at (g ∷ gs) e linked zero f is =
+functions_sound : (fs : List LinkedFn) (version : Version) (at : ℕ) (gs : List LinkedFn) → functions_fault fs version at gs ≡ None → AllByRecursion (λ f. IsLinkedCode (length fs) f.code) gs → (k : ℕ) (f : LinkedFn) → slice_get gs k ≡ Some f → IsSound fs f
+functions_sound fs version at [] e linked k f is = absurd cc
+functions_sound fs version at (g ∷ gs) e linked zero f is =
     let parts = or_later-none _ _ e in
     let same : g ≡ f = cc in
-    subst (IsSound fs) same (sound_function fs at g parts.0 linked.0)
-functions_sound fs at (g ∷ gs) e linked (suc k) f is =
+    subst (IsSound fs) same (sound_function fs version at g parts.0 linked.0)
+functions_sound fs version at (g ∷ gs) e linked (suc k) f is =
     let parts = or_later-none _ _ e in
-    functions_sound fs (at + 5 + length g.code) gs parts.1 linked.1 k f is
+    functions_sound fs version (at + code_offset version + length g.code) gs parts.1 linked.1 k f is
 
 -- a valid image is sound
-pub sound_image : (i : Linked) → IsLinked i → image_fault i ≡ None → AllSound i.functions
-sound_image i linked e =
-    let parts = or_later-none (entry_fault (slice_get i.functions i.entry)) (functions_fault i.functions 14 i.functions) e in
-    functions_sound i.functions 14 i.functions parts.1 linked.calls
+pub sound_image : (version : Version) (i : Linked) → IsLinked i → image_fault version i ≡ None → AllSound i.functions
+sound_image version i linked e =
+    let parts = or_later-none (entry_fault (slice_get i.functions i.entry)) (functions_fault i.functions version functions_place i.functions) e in
+    functions_sound i.functions version functions_place i.functions parts.1 linked.calls
 
 -- the state before the first step
 abbrev pub start_of : ℕ → LinkedFn → State

@@ -3,23 +3,23 @@ use Rattle.std.proofs.Common.{◌≡◌, ℕ, ◌+◌, ◌-◌, ◌<◌, ◌≤�
 use Rattle.std.proofs.lemmas.List.{length-take, get_or-take}
 use Rattle.std.proofs.lemmas.Bool.Decides.{nat_tests}
 use Rattle.std.specs.Prelude.{nat_le}
-use Rattle.stack_vm.specs.Instruction.{takes}
+use Rattle.stack_vm.specs.Operation.{takes}
 use Rattle.stack_vm.specs.Effect.{under, pushes, goes_on, after, one}
 use Rattle.stack_vm.specs.Running.{act}
 use Rattle.stack_vm.specs.Acts.{Act, Outcome, Goes, slots_after, has_slot, prints, pushing, staying}
 use Rattle.stack_vm.proofs.Stack.{under_drop, slots_stay, operands_are, stored_slots, stored_operands}
-use Rattle.stack_vm.specs.declared.instruction.Instruction.{Instruction}
-use Rattle.stack_vm.specs.declared.instruction.Instruction.TheVariants.{Push8, Push64, Load, Store, Pop, Dup, Nop, Add, Sub, Mul, Div, Rem, Neg, Equal, NotEqual, Less, AtMost, Greater, AtLeast, Not, Jump, JumpZero, Call, Return, Print, Trap}
+use Rattle.stack_vm.specs.declared.operation.Operation.{Operation}
+use Rattle.stack_vm.specs.declared.operation.Operation.TheVariants.{Push8, Push64, Load, Store, Pop, Dup, Nop, Compute, Neg, Not, Jump, JumpZero, Call, Return, Print, Trap}
 use Rattle.stack_vm.specs.declared.machine.State.{State}
 use Rattle.stack_vm.specs.declared.end.Kind.{Kind}
 
 -- an instruction does the same where the words are the same that it reads
-pub record Same (i : Instruction) (place : ℕ) (S T : List ℤ) (a c b d : ℤ) : Type 0 where
+pub record Same (i : Operation) (place : ℕ) (S T : List ℤ) (a c b d : ℤ) : Type 0 where
   pub pushed : pushes i S a b ≡ pushes i T c d
   pub goes : goes_on i place b ≡ goes_on i place d
   pub printed : prints i b ≡ prints i d
 
-pub same : (i : Instruction) (place : ℕ) (S T : List ℤ) (a c b d : ℤ) → (((s : ℕ) → i ≡ Load s → get_or S s (pos 0) ≡ get_or T s (pos 0))) → (1 ≤ takes i → b ≡ d) → (2 ≤ takes i → a ≡ c) → Same i place S T a c b d
+pub same : (i : Operation) (place : ℕ) (S T : List ℤ) (a c b d : ℤ) → (((s : ℕ) → i ≡ Load s → get_or S s (pos 0) ≡ get_or T s (pos 0))) → (1 ≤ takes i → b ≡ d) → (2 ≤ takes i → a ≡ c) → Same i place S T a c b d
 same (Push8 n) place S T a c b d l p q = record { pushed = refl; goes = refl; printed = refl }
 same (Push64 n) place S T a c b d l p q = record { pushed = refl; goes = refl; printed = refl }
 same Nop place S T a c b d l p q = record { pushed = refl; goes = refl; printed = refl }
@@ -35,17 +35,7 @@ same Neg place S T a c b d l p q = let e : b ≡ d = p (omega arith) in rw e (re
 same Not place S T a c b d l p q = let e : b ≡ d = p (omega arith) in rw e (record { pushed = refl; goes = refl; printed = refl })
 same (JumpZero to) place S T a c b d l p q = let e : b ≡ d = p (omega arith) in rw e (record { pushed = refl; goes = refl; printed = refl })
 same Print place S T a c b d l p q = let e : b ≡ d = p (omega arith) in rw e (record { pushed = refl; goes = refl; printed = refl })
-same Add place S T a c b d l p q = let e : b ≡ d = p (omega arith) in let f : a ≡ c = q (omega arith) in rw (e, f) (record { pushed = refl; goes = refl; printed = refl })
-same Sub place S T a c b d l p q = let e : b ≡ d = p (omega arith) in let f : a ≡ c = q (omega arith) in rw (e, f) (record { pushed = refl; goes = refl; printed = refl })
-same Mul place S T a c b d l p q = let e : b ≡ d = p (omega arith) in let f : a ≡ c = q (omega arith) in rw (e, f) (record { pushed = refl; goes = refl; printed = refl })
-same Div place S T a c b d l p q = let e : b ≡ d = p (omega arith) in let f : a ≡ c = q (omega arith) in rw (e, f) (record { pushed = refl; goes = refl; printed = refl })
-same Rem place S T a c b d l p q = let e : b ≡ d = p (omega arith) in let f : a ≡ c = q (omega arith) in rw (e, f) (record { pushed = refl; goes = refl; printed = refl })
-same Equal place S T a c b d l p q = let e : b ≡ d = p (omega arith) in let f : a ≡ c = q (omega arith) in rw (e, f) (record { pushed = refl; goes = refl; printed = refl })
-same NotEqual place S T a c b d l p q = let e : b ≡ d = p (omega arith) in let f : a ≡ c = q (omega arith) in rw (e, f) (record { pushed = refl; goes = refl; printed = refl })
-same Less place S T a c b d l p q = let e : b ≡ d = p (omega arith) in let f : a ≡ c = q (omega arith) in rw (e, f) (record { pushed = refl; goes = refl; printed = refl })
-same AtMost place S T a c b d l p q = let e : b ≡ d = p (omega arith) in let f : a ≡ c = q (omega arith) in rw (e, f) (record { pushed = refl; goes = refl; printed = refl })
-same Greater place S T a c b d l p q = let e : b ≡ d = p (omega arith) in let f : a ≡ c = q (omega arith) in rw (e, f) (record { pushed = refl; goes = refl; printed = refl })
-same AtLeast place S T a c b d l p q = let e : b ≡ d = p (omega arith) in let f : a ≡ c = q (omega arith) in rw (e, f) (record { pushed = refl; goes = refl; printed = refl })
+same (Compute o) place S T a c b d l p q = let e : b ≡ d = p (omega arith) in let f : a ≡ c = q (omega arith) in rw (e, f) (record { pushed = refl; goes = refl; printed = refl })
 
 pub chosen : (b c : Bool) (x y : Outcome) → b ≡ true → c ≡ true → (if b && c then x else y) ≡ x
 chosen b c x y e f = rw (e, f) refl
@@ -59,17 +49,17 @@ built m n p q ss tt os us a b c d = rw (a, b, c, d) refl
 pub goes_same : (x y : Act) (rest : List Act) (ps qs : List ℕ) → x ≡ y → ps ≡ qs → Goes (x ∷ rest) ps ≡ Goes (y ∷ rest) qs
 goes_same x y rest ps qs a b = rw (a, b) refl
 
-pub record Plain (i : Instruction) : Type 0 where
+pub record Plain (i : Operation) : Type 0 where
   pub words : (base : ℕ) (V p : List ℤ) → after i base V p ≡ take (length V - takes i) V ++ p
   pub slots : (S : List ℤ) (b : ℤ) → slots_after i S b ≡ S
 
-pub slot_low : (i : Instruction) (s count : ℕ) → has_slot i count ≡ true → i ≡ Load s → s < count
-slot_low i s count h e = let g : has_slot (Load s) count ≡ true = subst (λ (j : Instruction). has_slot j count ≡ true) e h in grind (arith, nat_tests, g)
+pub slot_low : (i : Operation) (s count : ℕ) → has_slot i count ≡ true → i ≡ Load s → s < count
+slot_low i s count h e = let g : has_slot (Load s) count ≡ true = subst (λ (j : Operation). has_slot j count ≡ true) e h in grind (arith, nat_tests, g)
 
 pub enough : (n m : ℕ) → n ≤ m → nat_le n m ≡ true
 enough n m h = grind (arith, nat_tests)
 
-pub stays_plain : (i : Instruction) (count : ℕ) (s t : State) (V now pushed : List ℤ) (rest : List Act) → Plain i
+pub stays_plain : (i : Operation) (count : ℕ) (s t : State) (V now pushed : List ℤ) (rest : List Act) → Plain i
     → s.base + count + takes i ≤ length V → has_slot i count ≡ true
     → pushes i (drop s.base V) (under V 1) (under V 0) ≡ Ok pushed → now ≡ after i s.base V pushed
     → t.number ≡ s.number → t.base ≡ s.base → t.place ≡ goes_on i s.place (under V 0)
@@ -127,7 +117,7 @@ stays_store k count s t V now pushed rest room slot words number base place =
     refl
 
 -- an instruction that stays in its function does on the stack what it does on the acts
-pub stays : (i : Instruction) (count : ℕ) (s t : State) (V now pushed : List ℤ) (rest : List Act)
+pub stays : (i : Operation) (count : ℕ) (s t : State) (V now pushed : List ℤ) (rest : List Act)
     → s.base + count + takes i ≤ length V → has_slot i count ≡ true
     → pushes i (drop s.base V) (under V 1) (under V 0) ≡ Ok pushed → now ≡ after i s.base V pushed
     → t.number ≡ s.number → t.base ≡ s.base → t.place ≡ goes_on i s.place (under V 0)
@@ -141,18 +131,8 @@ stays (Load k) count s t V now pushed rest a b c d e f g = stays_plain (Load k) 
 stays Pop count s t V now pushed rest a b c d e f g = stays_plain Pop count s t V now pushed rest (record { words = λ n V p. refl; slots = λ S b. refl }) a b c d e f g
 stays Dup count s t V now pushed rest a b c d e f g = stays_plain Dup count s t V now pushed rest (record { words = λ n V p. refl; slots = λ S b. refl }) a b c d e f g
 stays Nop count s t V now pushed rest a b c d e f g = stays_plain Nop count s t V now pushed rest (record { words = λ n V p. refl; slots = λ S b. refl }) a b c d e f g
-stays Add count s t V now pushed rest a b c d e f g = stays_plain Add count s t V now pushed rest (record { words = λ n V p. refl; slots = λ S b. refl }) a b c d e f g
-stays Sub count s t V now pushed rest a b c d e f g = stays_plain Sub count s t V now pushed rest (record { words = λ n V p. refl; slots = λ S b. refl }) a b c d e f g
-stays Mul count s t V now pushed rest a b c d e f g = stays_plain Mul count s t V now pushed rest (record { words = λ n V p. refl; slots = λ S b. refl }) a b c d e f g
-stays Div count s t V now pushed rest a b c d e f g = stays_plain Div count s t V now pushed rest (record { words = λ n V p. refl; slots = λ S b. refl }) a b c d e f g
-stays Rem count s t V now pushed rest a b c d e f g = stays_plain Rem count s t V now pushed rest (record { words = λ n V p. refl; slots = λ S b. refl }) a b c d e f g
+stays (Compute o) count s t V now pushed rest a b c d e f g = stays_plain (Compute o) count s t V now pushed rest (record { words = λ n V p. refl; slots = λ S b. refl }) a b c d e f g
 stays Neg count s t V now pushed rest a b c d e f g = stays_plain Neg count s t V now pushed rest (record { words = λ n V p. refl; slots = λ S b. refl }) a b c d e f g
-stays Equal count s t V now pushed rest a b c d e f g = stays_plain Equal count s t V now pushed rest (record { words = λ n V p. refl; slots = λ S b. refl }) a b c d e f g
-stays NotEqual count s t V now pushed rest a b c d e f g = stays_plain NotEqual count s t V now pushed rest (record { words = λ n V p. refl; slots = λ S b. refl }) a b c d e f g
-stays Less count s t V now pushed rest a b c d e f g = stays_plain Less count s t V now pushed rest (record { words = λ n V p. refl; slots = λ S b. refl }) a b c d e f g
-stays AtMost count s t V now pushed rest a b c d e f g = stays_plain AtMost count s t V now pushed rest (record { words = λ n V p. refl; slots = λ S b. refl }) a b c d e f g
-stays Greater count s t V now pushed rest a b c d e f g = stays_plain Greater count s t V now pushed rest (record { words = λ n V p. refl; slots = λ S b. refl }) a b c d e f g
-stays AtLeast count s t V now pushed rest a b c d e f g = stays_plain AtLeast count s t V now pushed rest (record { words = λ n V p. refl; slots = λ S b. refl }) a b c d e f g
 stays Not count s t V now pushed rest a b c d e f g = stays_plain Not count s t V now pushed rest (record { words = λ n V p. refl; slots = λ S b. refl }) a b c d e f g
 stays (Jump to) count s t V now pushed rest a b c d e f g = stays_plain (Jump to) count s t V now pushed rest (record { words = λ n V p. refl; slots = λ S b. refl }) a b c d e f g
 stays (JumpZero to) count s t V now pushed rest a b c d e f g = stays_plain (JumpZero to) count s t V now pushed rest (record { words = λ n V p. refl; slots = λ S b. refl }) a b c d e f g

@@ -3,7 +3,7 @@ use Rattle.std.proofs.Common.{◌≡◌, ℕ, ◌+◌, ◌-◌, ◌<◌, ◌≤�
 use Rattle.std.specs.Prelude.{nat_le, nat_lt}
 use Rattle.std.proofs.lemmas.List.{length-take, get_or-take, length-reverse}
 use Rattle.std.proofs.lemmas.Bool.Decides.{nat_tests}
-use Rattle.stack_vm.specs.Instruction.{takes, instruction_at}
+use Rattle.stack_vm.specs.Operation.{takes, operation_at}
 use Rattle.stack_vm.specs.Heights.{greatest_of}
 use Rattle.stack_vm.specs.Effect.{under, pushes, after, is_inner}
 use Rattle.stack_vm.specs.Sound.{IsFine}
@@ -14,8 +14,8 @@ use Rattle.stack_vm.proofs.Stack.{front_stays, stored_front, under_drop}
 use Rattle.stack_vm.proofs.Stays.{Same, same, slot_low, enough, chosen}
 use Rattle.stack_vm.proofs.Turns.{length-seen, no_test}
 use Rattle.stack_vm.proofs.Moves.{fine_room, obey_inner}
-use Rattle.stack_vm.specs.declared.instruction.Instruction.{Instruction}
-use Rattle.stack_vm.specs.declared.instruction.Instruction.TheVariants.{Push8, Push64, Load, Store, Pop, Dup, Nop, Add, Sub, Mul, Div, Rem, Neg, Equal, NotEqual, Less, AtMost, Greater, AtLeast, Not, Jump, JumpZero, Call, Return, Print, Trap}
+use Rattle.stack_vm.specs.declared.operation.Operation.{Operation}
+use Rattle.stack_vm.specs.declared.operation.Operation.TheVariants.{Push8, Push64, Load, Store, Pop, Dup, Nop, Compute, Neg, Not, Jump, JumpZero, Call, Return, Print, Trap}
 use Rattle.object_format.specs.Image.{LinkedFn}
 use Rattle.stack_vm.specs.declared.machine.State.{State}
 use Rattle.stack_vm.specs.declared.machine.Frame.{Frame}
@@ -23,7 +23,7 @@ use Rattle.stack_vm.specs.declared.end.Kind.{Kind}
 use Rattle.stack_vm.specs.declared.end.Kind.TheVariants as kinds
 
 -- what lies below the frame stays
-pub after_front : (i : Instruction) (n count : ℕ) (V pushed : List ℤ) → n + count + takes i ≤ length V → take n (after i n V pushed) ≡ take n V
+pub after_front : (i : Operation) (n count : ℕ) (V pushed : List ℤ) → n + count + takes i ≤ length V → take n (after i n V pushed) ≡ take n V
 after_front (Push8 x) n count V pushed room = front_stays V pushed n (length V - takes (Push8 x)) (omega (arith, room)) (omega arith)
 after_front (Push64 x) n count V pushed room = front_stays V pushed n (length V - takes (Push64 x)) (omega (arith, room)) (omega arith)
 after_front (Load k) n count V pushed room = front_stays V pushed n (length V - takes (Load k)) (omega (arith, room)) (omega arith)
@@ -31,18 +31,8 @@ after_front (Store k) n count V pushed room = stored_front V n k (length V - 1) 
 after_front Pop n count V pushed room = front_stays V pushed n (length V - takes Pop) (omega (arith, room)) (omega arith)
 after_front Dup n count V pushed room = front_stays V pushed n (length V - takes Dup) (omega (arith, room)) (omega arith)
 after_front Nop n count V pushed room = front_stays V pushed n (length V - takes Nop) (omega (arith, room)) (omega arith)
-after_front Add n count V pushed room = front_stays V pushed n (length V - takes Add) (omega (arith, room)) (omega arith)
-after_front Sub n count V pushed room = front_stays V pushed n (length V - takes Sub) (omega (arith, room)) (omega arith)
-after_front Mul n count V pushed room = front_stays V pushed n (length V - takes Mul) (omega (arith, room)) (omega arith)
-after_front Div n count V pushed room = front_stays V pushed n (length V - takes Div) (omega (arith, room)) (omega arith)
-after_front Rem n count V pushed room = front_stays V pushed n (length V - takes Rem) (omega (arith, room)) (omega arith)
+after_front (Compute o) n count V pushed room = front_stays V pushed n (length V - takes (Compute o)) (omega (arith, room)) (omega arith)
 after_front Neg n count V pushed room = front_stays V pushed n (length V - takes Neg) (omega (arith, room)) (omega arith)
-after_front Equal n count V pushed room = front_stays V pushed n (length V - takes Equal) (omega (arith, room)) (omega arith)
-after_front NotEqual n count V pushed room = front_stays V pushed n (length V - takes NotEqual) (omega (arith, room)) (omega arith)
-after_front Less n count V pushed room = front_stays V pushed n (length V - takes Less) (omega (arith, room)) (omega arith)
-after_front AtMost n count V pushed room = front_stays V pushed n (length V - takes AtMost) (omega (arith, room)) (omega arith)
-after_front Greater n count V pushed room = front_stays V pushed n (length V - takes Greater) (omega (arith, room)) (omega arith)
-after_front AtLeast n count V pushed room = front_stays V pushed n (length V - takes AtLeast) (omega (arith, room)) (omega arith)
 after_front Not n count V pushed room = front_stays V pushed n (length V - takes Not) (omega (arith, room)) (omega arith)
 after_front (Jump to) n count V pushed room = front_stays V pushed n (length V - takes (Jump to)) (omega (arith, room)) (omega arith)
 after_front (JumpZero to) n count V pushed room = front_stays V pushed n (length V - takes (JumpZero to)) (omega (arith, room)) (omega arith)
@@ -51,7 +41,7 @@ after_front Return n count V pushed room = front_stays V pushed n (length V - ta
 after_front Print n count V pushed room = front_stays V pushed n (length V - takes Print) (omega (arith, room)) (omega arith)
 after_front Trap n count V pushed room = front_stays V pushed n (length V - takes Trap) (omega (arith, room)) (omega arith)
 
-inner_err : (i : Instruction) (S : List ℤ) (a b : ℤ) (kind : Kind) → pushes i S a b ≡ Err kind → is_inner i ≡ true
+inner_err : (i : Operation) (S : List ℤ) (a b : ℤ) (kind : Kind) → pushes i S a b ≡ Err kind → is_inner i ≡ true
 inner_err (Push8 n) S a b kind e = refl
 inner_err (Push64 n) S a b kind e = refl
 inner_err (Load k) S a b kind e = refl
@@ -59,18 +49,8 @@ inner_err (Store k) S a b kind e = refl
 inner_err Pop S a b kind e = refl
 inner_err Dup S a b kind e = refl
 inner_err Nop S a b kind e = refl
-inner_err Add S a b kind e = refl
-inner_err Sub S a b kind e = refl
-inner_err Mul S a b kind e = refl
-inner_err Div S a b kind e = refl
-inner_err Rem S a b kind e = refl
+inner_err (Compute o) S a b kind e = refl
 inner_err Neg S a b kind e = refl
-inner_err Equal S a b kind e = refl
-inner_err NotEqual S a b kind e = refl
-inner_err Less S a b kind e = refl
-inner_err AtMost S a b kind e = refl
-inner_err Greater S a b kind e = refl
-inner_err AtLeast S a b kind e = refl
 inner_err Not S a b kind e = refl
 inner_err (Jump to) S a b kind e = refl
 inner_err (JumpZero to) S a b kind e = refl
@@ -80,8 +60,8 @@ inner_err Print S a b kind e = refl
 inner_err Trap S a b kind e = refl
 
 -- an instruction that traps on the stack traps on the acts
-pub traps : (fs : List LinkedFn) (f : LinkedFn) (s : State) (V : List ℤ) (i : Instruction) (rest : List Act) (kind : Kind)
-    → slice_get fs s.number ≡ Some f → instruction_at f.code s.place ≡ Some i → IsFine fs f s.place (height f s) i → length V ≡ s.top → s.base + f.slots ≤ s.top
+pub traps : (fs : List LinkedFn) (f : LinkedFn) (s : State) (V : List ℤ) (i : Operation) (rest : List Act) (kind : Kind)
+    → slice_get fs s.number ≡ Some f → operation_at f.code s.place ≡ Some i → IsFine fs f s.place (height f s) i → length V ≡ s.top → s.base + f.slots ≤ s.top
     → pushes i (drop s.base V) (under V 1) (under V 0) ≡ Err kind → step fs (act f.slots s V ∷ rest) ≡ Traps kind
 traps fs f s V i rest kind is at fine long above err =
     let inner = inner_err i _ _ _ kind err in

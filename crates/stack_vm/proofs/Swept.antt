@@ -8,13 +8,13 @@ use Rattle.object_format.specs.Image.{LinkedFn}
 use Rattle.object_format.specs.Reading.{code_fault, or_later}
 use Rattle.object_format.specs.declared.fault.What.{What}
 use Rattle.object_format.specs.declared.fault.What.TheVariants as word
-use Rattle.stack_vm.specs.Instruction.{size, IsThere, placed, instructions}
+use Rattle.stack_vm.specs.Operation.{size, IsThere, placed, operations}
 use Rattle.stack_vm.specs.Heights.{taken, left_by, jumps_to, handed_on, brings, first_at, as_number, Shows, Before, here, next, reached, at_start, heights, heights_of, greatest}
 use Rattle.stack_vm.specs.Faults.{is_return, may_end, misses, brings_other, is_crossed, height_at, word_at, fault_if, is_empty, code_faults, Judges}
 use Rattle.stack_vm.specs.Sweep.{Grows, Arrives, Leads, Agrees, Settled, Swept}
-use Rattle.stack_vm.specs.declared.instruction.Instruction.{Instruction}
-use Rattle.stack_vm.specs.declared.instruction.Instruction.TheVariants.{Jump, Return, Trap}
-use Rattle.stack_vm.specs.declared.instruction.Placed.{Placed}
+use Rattle.stack_vm.specs.declared.operation.Operation.{Operation}
+use Rattle.stack_vm.specs.declared.operation.Operation.TheVariants.{Jump, Return, Trap}
+use Rattle.stack_vm.specs.declared.operation.Placed.{Placed}
 use Rattle.stack_vm.specs.declared.sweeping.Way.{Way}
 use Rattle.stack_vm.proofs.Listing.{Front, whole_front, there_one}
 use Rattle.stack_vm.proofs.Measuring.{reached_more, heights_more, greatest_more, here_is, here_low, shown_higher}
@@ -135,14 +135,14 @@ all_grown fs f old new (p ∷ ps) g h = (settled_grown fs f old new p g h.0, all
 
 -- ---- one more instruction
 
-handed_same : (i : Instruction) (n m : ℕ) → handed_on i n ≡ Some m → m ≡ n
+handed_same : (i : Operation) (n m : ℕ) → handed_on i n ≡ Some m → m ≡ n
 handed_same (Jump to) n m e = absurd cc
 handed_same Return n m e = absurd cc
 handed_same Trap n m e = absurd cc
 handed_same i n m e = cc
 
 -- before the first
-pub swept_none : (fs : List LinkedFn) (f : LinkedFn) (numbers : List ℕ) → numbers ≡ replicate (length f.code) (2 ^ 32 - 1) → (count : ℕ) × (code_fault count 0 0 f.code ≡ None) → Swept fs f 0 (Some 0) 0 numbers
+pub swept_none : (fs : List LinkedFn) (f : LinkedFn) (numbers : List ℕ) → numbers ≡ replicate (length f.code) (2 ^ 32 - 1) → (count : Option ℕ) × (code_fault count 0 f.code ≡ None) → Swept fs f 0 (Some 0) 0 numbers
 swept_none fs f numbers is whole = record {
   done = [];
   all = refl;
@@ -159,15 +159,15 @@ swept_none fs f numbers is whole = record {
 }
 
 -- where the pass stands at an instruction
-record Standing (fs : List LinkedFn) (f : LinkedFn) (offset : ℕ) (i : Instruction) (b : Before) (hd : List (ℕ × ℕ)) (height : ℕ) (numbers : List ℕ) : Type 0 where
+record Standing (fs : List LinkedFn) (f : LinkedFn) (offset : ℕ) (i : Operation) (b : Before) (hd : List (ℕ × ℕ)) (height : ℕ) (numbers : List ℕ) : Type 0 where
   pub lt : offset < length numbers
   pub is : height ≡ here b offset
   pub low : height ≤ 255 * offset
   pub short : 255 * offset + 255 < 4294967295
   pub none : first_at hd offset ≡ None
 
-standing : (fs : List LinkedFn) (f : LinkedFn) (offset : ℕ) (handed : Option ℕ) (most : ℕ) (numbers : List ℕ) (i : Instruction) (height : ℕ) (new : List ℕ) (s : Swept fs f offset handed most numbers)
-    → offset < length f.code → length f.code < 2 ^ 16 → Arrives handed offset numbers height new
+standing : (fs : List LinkedFn) (f : LinkedFn) (offset : ℕ) (handed : Option ℕ) (most : ℕ) (numbers : List ℕ) (i : Operation) (height : ℕ) (new : List ℕ) (s : Swept fs f offset handed most numbers)
+    → offset < length f.code → length f.code ≤ 16777216 → Arrives handed offset numbers height new
     → Standing fs f offset i (reached fs at_start s.done) (heights fs at_start s.done) height numbers
 standing fs f offset handed most numbers i height new s lt short a =
     let b = reached fs at_start s.done in
@@ -185,8 +185,8 @@ standing fs f offset handed most numbers i height new s lt short a =
       none = none;
     }
 
-pub swept_more : (fs : List LinkedFn) (f : LinkedFn) (offset : ℕ) (handed : Option ℕ) (most : ℕ) (numbers : List ℕ) (i : Instruction) (height : ℕ) (mid : List ℕ) (w : Way) (new : List ℕ)
-    → Swept fs f offset handed most numbers → offset < length f.code → length f.code < 2 ^ 16 → IsThere f.code offset i
+pub swept_more : (fs : List LinkedFn) (f : LinkedFn) (offset : ℕ) (handed : Option ℕ) (most : ℕ) (numbers : List ℕ) (i : Operation) (height : ℕ) (mid : List ℕ) (w : Way) (new : List ℕ)
+    → Swept fs f offset handed most numbers → offset < length f.code → length f.code ≤ 16777216 → IsThere f.code offset i
     → Arrives handed offset numbers height mid → Leads fs f i height w → Agrees offset w.target w.left mid new
     → ((t : ℕ) → offset + 1 ≤ t → t < offset + w.size → slice_index new t ≡ 4294967295)
     → Swept fs f (offset + w.size) w.handed (max most height) new
@@ -195,10 +195,10 @@ swept_more fs f offset handed most numbers i height mid w new s lt short there a
     let count = s.whole.0 in
     let b = reached fs at_start s.done in
     let hd = heights fs at_start s.done in
-    let p : Placed = record { offset = offset; instruction = i } in
+    let p : Placed = record { offset = offset; operation = i } in
     let st = standing fs f offset handed most numbers i height mid s lt short a in
     let found = whole_front count code offset lt s.whole.1 in
-    let front : Front count code offset i = subst (λ (j : Instruction). Front count code offset j) (there_one code offset found.0 i found.1.there there) found.1 in
+    let front : Front count code offset i = subst (λ (j : Operation). Front count code offset j) (there_one code offset found.0 i found.1.there there) found.1 in
     let one : 1 ≤ size i = omega arith in
     let end : offset + size i ≡ offset + w.size = ap (λ (n : ℕ). offset + n) (sym l.size) in
     let long : offset + w.size ≤ length code = omega (arith, end, front.long) in
@@ -241,7 +241,7 @@ swept_more fs f offset handed most numbers i height mid w new s lt short there a
           ∙ (ap (λ (ps : List Placed). s.done ++ ps) (sym front.placed)
           ∙ s.all));
       within = long;
-      whole = (count, subst (λ (n : ℕ). code_fault count n 0 (drop n code) ≡ None) end front.whole);
+      whole = (count, subst (λ (n : ℕ). code_fault count n (drop n code) ≡ None) end front.whole);
       long = both.long ∙ s.long;
       gives = l.handed ∙ (ap (λ (n : ℕ). handed_on i (left_by fs i n)) st.is ∙ ap (λ (c : Before). c.handed) (sym reached_is));
       low = λ h e. omega (arith, handed_same i (left_by fs i height) h (sym l.handed ∙ e), l.left, left);
@@ -267,7 +267,7 @@ swept_more fs f offset handed most numbers i height mid w new s lt short there a
     }
 
 -- where the instruction at hand ends
-pub ends_within : (fs : List LinkedFn) (f : LinkedFn) (offset : ℕ) (handed : Option ℕ) (most : ℕ) (numbers : List ℕ) (i : Instruction) (bytes : ℕ)
+pub ends_within : (fs : List LinkedFn) (f : LinkedFn) (offset : ℕ) (handed : Option ℕ) (most : ℕ) (numbers : List ℕ) (i : Operation) (bytes : ℕ)
     → Swept fs f offset handed most numbers → offset < length f.code → IsThere f.code offset i → bytes ≡ size i → (offset + 1 ≤ offset + bytes) × (offset + bytes ≤ length f.code)
 ends_within fs f offset handed most numbers i bytes s lt there is =
     let found = whole_front s.whole.0 f.code offset lt s.whole.1 in
@@ -305,16 +305,16 @@ settled_height : (fs : List LinkedFn) (f : LinkedFn) (hs : List (ℕ × ℕ)) (n
 settled_height fs f hs numbers p l s = ap (λ (o : Option ℕ). unwrap_or o 0) (l.look p.offset s.height s.within s.stands s.small)
 
 settled_target : (fs : List LinkedFn) (f : LinkedFn) (hs : List (ℕ × ℕ)) (numbers : List ℕ) (p : Placed) → Left hs numbers → (s : Settled fs f numbers p)
-    → (to : ℕ) → jumps_to p.instruction ≡ Some to → first_at hs to ≡ Some (left_by fs p.instruction s.height)
-settled_target fs f hs numbers p l s to is = let t = s.there to is in l.look to (left_by fs p.instruction s.height) t.0 t.1 s.low
+    → (to : ℕ) → jumps_to p.operation ≡ Some to → first_at hs to ≡ Some (left_by fs p.operation s.height)
+settled_target fs f hs numbers p l s to is = let t = s.there to is in l.look to (left_by fs p.operation s.height) t.0 t.1 s.low
 
 not_crossed : (fs : List LinkedFn) (f : LinkedFn) (hs : List (ℕ × ℕ)) (numbers : List ℕ) (t : ℕ) (ps : List Placed) → Left hs numbers → AllByRecursion (Settled fs f numbers) ps → is_crossed fs hs t ps ≡ false
 not_crossed fs f hs numbers t [] l all = refl
 not_crossed fs f hs numbers t (p ∷ ps) l all =
     let height = settled_height fs f hs numbers p l all.0 in
-    let first : brings_other (jumps_to p.instruction) (left_by fs p.instruction (height_at hs p.offset)) (first_at hs t) t ≡ false =
-    ap (λ (n : ℕ). brings_other (jumps_to p.instruction) (left_by fs p.instruction n) (first_at hs t) t) height
-    ∙ brings_same (jumps_to p.instruction) (left_by fs p.instruction all.0.height) hs t (settled_target fs f hs numbers p l all.0) in
+    let first : brings_other (jumps_to p.operation) (left_by fs p.operation (height_at hs p.offset)) (first_at hs t) t ≡ false =
+    ap (λ (n : ℕ). brings_other (jumps_to p.operation) (left_by fs p.operation n) (first_at hs t) t) height
+    ∙ brings_same (jumps_to p.operation) (left_by fs p.operation all.0.height) hs t (settled_target fs f hs numbers p l all.0) in
     ap (λ (b : Bool). b || is_crossed fs hs t ps) first ∙ not_crossed fs f hs numbers t ps l all.1
 
 and_not_false : (a b : Bool) → (a ≡ true → b ≡ true) → (a && not b) ≡ false
@@ -323,21 +323,21 @@ and_not_false true false h = absurd (let e = h refl in cc)
 and_not_false false b h = refl
 
 -- an instruction that keeps each rule has no word of the table
-passed : (fs : List LinkedFn) (hs : List (ℕ × ℕ)) (f : LinkedFn) (i : Instruction) (height : ℕ) (crossed is_last : Bool) → Kept fs hs f i height crossed is_last → word_at fs hs f i height crossed is_last ≡ None
+passed : (fs : List LinkedFn) (hs : List (ℕ × ℕ)) (f : LinkedFn) (i : Operation) (height : ℕ) (crossed is_last : Bool) → Kept fs hs f i height crossed is_last → word_at fs hs f i height crossed is_last ≡ None
 passed fs hs f i height crossed is_last k =
     let words : ltb height (taken fs i) ≡ false = le-ltb height (taken fs i) k.words in
     let leaves : (is_return i && not (eqb height f.«result»)) ≡ false = and_not_false (is_return i) (eqb height f.«result») (λ is. eq-eqb height f.«result» (k.leaves is)) in
     let ends : (is_last && not (may_end i)) ≡ false = and_not_false is_last (may_end i) k.ends in
     rw (k.target, k.slot, words, k.same, leaves, ends) refl
 
-ends_of : (i : Instruction) (left : ℕ) → handed_on i left ≡ None → may_end i ≡ true
+ends_of : (i : Operation) (left : ℕ) → handed_on i left ≡ None → may_end i ≡ true
 ends_of (Jump to) left e = refl
 ends_of Return left e = refl
 ends_of Trap left e = refl
 ends_of i left e = absurd cc
 
-last_ends : (fs : List LinkedFn) (b : Before) (p : Placed) (ps : List Placed) → (reached fs b (p ∷ ps)).handed ≡ None → is_empty ps ≡ true → may_end p.instruction ≡ true
-last_ends fs b p [] e last = ends_of p.instruction _ e
+last_ends : (fs : List LinkedFn) (b : Before) (p : Placed) (ps : List Placed) → (reached fs b (p ∷ ps)).handed ≡ None → is_empty ps ≡ true → may_end p.operation ≡ true
+last_ends fs b p [] e last = ends_of p.operation _ e
 last_ends fs b p (q ∷ qs) e last = absurd cc
 
 no_faults : (fs : List LinkedFn) (f : LinkedFn) (hs : List (ℕ × ℕ)) (numbers : List ℕ) (all : List Placed) (at : ℕ) (b : Before) (ps : List Placed) → Left hs numbers
@@ -346,25 +346,25 @@ no_faults fs f hs numbers all at b [] l crossed settled e = refl
 no_faults fs f hs numbers all at b (p ∷ ps) l crossed settled e =
     let s = settled.0 in
     let height = settled_height fs f hs numbers p l s in
-    let kept : Kept fs hs f p.instruction (height_at hs p.offset) (is_crossed fs hs p.offset all) (is_empty ps) = record {
-      target = target_met (jumps_to p.instruction) hs (left_by fs p.instruction s.height) (settled_target fs f hs numbers p l s);
+    let kept : Kept fs hs f p.operation (height_at hs p.offset) (is_crossed fs hs p.offset all) (is_empty ps) = record {
+      target = target_met (jumps_to p.operation) hs (left_by fs p.operation s.height) (settled_target fs f hs numbers p l s);
       slot = s.slot;
       words = omega (arith, height, s.words);
       same = crossed p.offset;
       leaves = λ is. height ∙ s.leaves is;
       ends = last_ends fs b p ps e;
     } in
-    ap (λ (o : Option What). or_later (fault_if (at + p.offset) o) (code_faults fs hs f all at ps)) (passed fs hs f p.instruction (height_at hs p.offset) (is_crossed fs hs p.offset all) (is_empty ps) kept)
+    ap (λ (o : Option What). or_later (fault_if (at + p.offset) o) (code_faults fs hs f all at ps)) (passed fs hs f p.operation (height_at hs p.offset) (is_crossed fs hs p.offset all) (is_empty ps) kept)
     ∙ no_faults fs f hs numbers all at (next fs b p) ps l crossed settled.1 e
 
 pub swept_all : (fs : List LinkedFn) (f : LinkedFn) (offset most : ℕ) (numbers : List ℕ) → Swept fs f offset None most numbers → length f.code ≤ offset → (at : ℕ) → Judges fs at f (Ok most)
-unfolding instructions
+unfolding operations
 swept_all fs f offset most numbers s past at =
     let b = reached fs at_start s.done in
     let hd = heights fs at_start s.done in
     let same_end : offset ≡ length f.code = omega (arith, s.within, past) in
     let nothing : drop offset f.code ≡ [] = drop_all offset f.code past in
-    let listed : s.done ≡ instructions f.code = sym (append-nil s.done) ∙ (ap (λ (bs : List ℕ). s.done ++ placed offset 0 bs) (sym nothing) ∙ s.all) in
+    let listed : s.done ≡ operations f.code = sym (append-nil s.done) ∙ (ap (λ (bs : List ℕ). s.done ++ placed offset 0 bs) (sym nothing) ∙ s.all) in
     let hs : hd ≡ heights_of fs f.code = heights-listed fs f.code s.done listed in
     let left : Left hd numbers = record { look = λ t h lt is low. found_of (first_at hd t) (first_at b.jumps t) (slice_index numbers t) h (s.shown.each t lt ∙ ap as_number (first_at-append hd b.jumps t)) (s.between t (omega (arith, lt, s.long, same_end))) is low } in
     let none : code_faults fs hd f s.done at s.done ≡ None = no_faults fs f hd numbers s.done at at_start s.done left (λ t. not_crossed fs f hd numbers t s.done left s.settled) s.settled (sym s.gives) in

@@ -2,11 +2,11 @@
 use Rattle.std.specs.Prelude.{ℕ, zero, suc, ◌+◌, ◌-◌, List, [], ◌∷◌, ◌++◌, length, take, drop, slice_get, slice_set, replicate, ℤ, pos, Bool, true, nat_le, nat_lt, ◌&&◌, ◌||◌, if◌then◌else◌, Option, Some, None, Result, Ok, Err}
 use Rattle.std.specs.Fmt.{signed_decimal}
 use Rattle.object_format.specs.Image.{LinkedFn, Linked}
-use Rattle.stack_vm.specs.Instruction.{size, takes, instruction_at}
+use Rattle.stack_vm.specs.Operation.{size, takes, operation_at}
 use Rattle.stack_vm.specs.Heights.{greatest_of}
 use Rattle.stack_vm.specs.Effect.{under, pushes, goes_on}
-use Rattle.stack_vm.specs.declared.instruction.Instruction.{Instruction}
-use Rattle.stack_vm.specs.declared.instruction.Instruction.TheVariants.{Load, Store, Call, Return, Print}
+use Rattle.stack_vm.specs.declared.operation.Operation.{Operation}
+use Rattle.stack_vm.specs.declared.operation.Operation.TheVariants.{Load, Store, Call, Return, Print}
 use Rattle.stack_vm.specs.declared.end.Kind.{Kind}
 use Rattle.stack_vm.specs.declared.end.Kind.TheVariants as kinds
 use Rattle.stack_vm.specs.declared.end.End.{End}
@@ -26,11 +26,11 @@ pub data Outcome : Type 0 where
   Traps : Kind → Outcome
   Stuck : Outcome
 
-abbrev pub slots_after : Instruction → List ℤ → ℤ → List ℤ
+abbrev pub slots_after : Operation → List ℤ → ℤ → List ℤ
 slots_after (Store s) slots b = slice_set slots s b
 slots_after i slots b = slots
 
-abbrev pub has_slot : Instruction → ℕ → Bool
+abbrev pub has_slot : Operation → ℕ → Bool
 has_slot (Load s) count = nat_lt s count
 has_slot (Store s) count = nat_lt s count
 has_slot i count = true
@@ -39,11 +39,11 @@ has_slot i count = true
 abbrev pub line_of : ℤ → List ℕ
 line_of n = signed_decimal n ++ 10 ∷ []
 
-abbrev pub prints : Instruction → ℤ → List ℕ
+abbrev pub prints : Operation → ℤ → List ℕ
 prints Print b = line_of b
 prints i b = []
 
-abbrev pub pushing : Instruction → Act → List Act → Result (List ℤ) Kind → Outcome
+abbrev pub pushing : Operation → Act → List Act → Result (List ℤ) Kind → Outcome
 pushing i a rest (Err kind) = Traps kind
 pushing i a rest (Ok pushed) =
     Goes
@@ -56,7 +56,7 @@ pushing i a rest (Ok pushed) =
     (prints i (under a.operands 0))
 
 -- an instruction that stays in its function
-abbrev pub staying : Instruction → Act → List Act → Outcome
+abbrev pub staying : Operation → Act → List Act → Outcome
 staying i a rest =
     if nat_le (takes i) (length a.operands) && has_slot i (length a.slots)
     then pushing i a rest (pushes i a.slots (under a.operands 1) (under a.operands 0))
@@ -83,7 +83,7 @@ abbrev pub returning : Act → List Act → Outcome
 returning a [] = Ends
 returning a (b ∷ bs) = Goes (record { number = b.number; place = b.place; slots = b.slots; operands = b.operands ++ a.operands } ∷ bs) []
 
-abbrev pub obey : List LinkedFn → Option Instruction → Act → List Act → Outcome
+abbrev pub obey : List LinkedFn → Option Operation → Act → List Act → Outcome
 obey fs None a rest = Stuck
 obey fs (Some (Call k)) a rest = calling fs k (slice_get fs k) a rest
 obey fs (Some Return) a rest = returning a rest
@@ -95,7 +95,7 @@ code_of (Some f) = f.code
 
 abbrev pub step : List LinkedFn → List Act → Outcome
 step fs [] = Stuck
-step fs (a ∷ rest) = obey fs (instruction_at (code_of (slice_get fs a.number)) a.place) a rest
+step fs (a ∷ rest) = obey fs (operation_at (code_of (slice_get fs a.number)) a.place) a rest
 
 -- how a run ended, and the text that it printed
 pub record Ran : Type 0 where

@@ -2,10 +2,10 @@
 use Rattle.std.specs.Prelude.{◌≡◌, ℕ, ◌+◌, ◌-◌, ◌^◌, ◌<◌, ◌≤◌, max, slice_index, List, [], ◌∷◌, ◌++◌, length, slice_get, eqb, if◌then◌else◌, Option, Some, None, unwrap_or}
 use Rattle.object_format.specs.Opcode.{row}
 use Rattle.object_format.specs.Image.{LinkedFn}
-use Rattle.stack_vm.specs.Instruction.{opcode, instructions}
-use Rattle.stack_vm.specs.declared.instruction.Instruction.{Instruction}
-use Rattle.stack_vm.specs.declared.instruction.Placed.{Placed}
-use Rattle.stack_vm.specs.declared.instruction.Instruction.TheVariants.{Jump, JumpZero, Call, Return, Trap}
+use Rattle.stack_vm.specs.Operation.{opcode, operations}
+use Rattle.stack_vm.specs.declared.operation.Operation.{Operation}
+use Rattle.stack_vm.specs.declared.operation.Placed.{Placed}
+use Rattle.stack_vm.specs.declared.operation.Operation.TheVariants.{Jump, JumpZero, Call, Return, Trap}
 
 abbrev pub params_of : Option LinkedFn → ℕ
 params_of (Some f) = f.params
@@ -16,26 +16,26 @@ result_of (Some f) = f.«result»
 result_of None = 0
 
 -- the words that an instruction takes, and those that it pushes then
-abbrev pub taken : List LinkedFn → Instruction → ℕ
+abbrev pub taken : List LinkedFn → Operation → ℕ
 taken fs (Call k) = params_of (slice_get fs k)
 taken fs i = (row (opcode i)).takes
 
-abbrev pub pushed : List LinkedFn → Instruction → ℕ
+abbrev pub pushed : List LinkedFn → Operation → ℕ
 pushed fs (Call k) = result_of (slice_get fs k)
 pushed fs i = (row (opcode i)).pushes
 
 -- the height that is left; where too few words are there, only what is pushed
-abbrev pub left_by : List LinkedFn → Instruction → ℕ → ℕ
+abbrev pub left_by : List LinkedFn → Operation → ℕ → ℕ
 left_by fs i height = (height - taken fs i) + pushed fs i
 
 -- the offset to which an instruction may jump
-abbrev pub jumps_to : Instruction → Option ℕ
+abbrev pub jumps_to : Operation → Option ℕ
 jumps_to (Jump to) = Some to
 jumps_to (JumpZero to) = Some to
 jumps_to i = None
 
 -- the height that the next instruction has from the one before it
-abbrev pub handed_on : Instruction → ℕ → Option ℕ
+abbrev pub handed_on : Operation → ℕ → Option ℕ
 handed_on (Jump to) left = None
 handed_on Return left = None
 handed_on Trap left = None
@@ -61,8 +61,8 @@ brings (Some to) left = (to, left) ∷ []
 
 abbrev pub next : List LinkedFn → Before → Placed → Before
 next fs b p = record {
-  handed = handed_on p.instruction (left_by fs p.instruction (here b p.offset));
-  jumps = b.jumps ++ brings (jumps_to p.instruction) (left_by fs p.instruction (here b p.offset));
+  handed = handed_on p.operation (left_by fs p.operation (here b p.offset));
+  jumps = b.jumps ++ brings (jumps_to p.operation) (left_by fs p.operation (here b p.offset));
 }
 
 abbrev pub reached : List LinkedFn → Before → List Placed → Before
@@ -80,7 +80,7 @@ heights fs b (p ∷ ps) = (p.offset, here b p.offset) ∷ heights fs (next fs b 
 
 -- the heights of a function's code
 unfoldable pub heights_of : List LinkedFn → List ℕ → List (ℕ × ℕ)
-heights_of fs code = heights fs at_start (instructions code)
+heights_of fs code = heights fs at_start (operations code)
 
 abbrev pub greatest : List (ℕ × ℕ) → ℕ
 greatest [] = 0

@@ -1,9 +1,10 @@
 pub mod Acts
 pub mod Effect
 pub mod Faults
+pub mod Going
 pub mod Heights
-pub mod Instruction
 pub mod MemorySinkState
+pub mod Operation
 pub mod Putting
 pub mod Running
 pub mod SinkState

@@ -3,7 +3,7 @@ use Rattle.std.specs.Prelude.{◌≡◌, ℕ, ◌+◌, ◌-◌, ◌*◌, ◌<◌
 use Rattle.object_format.specs.Image.{LinkedFn, IsLinkedFn}
 use Rattle.stack_vm.specs.Heights.{greatest_of}
 use Rattle.stack_vm.specs.Sound.{At, Leaves, IsSound, IsFine}
-use Rattle.stack_vm.specs.declared.instruction.Instruction.{Instruction}
+use Rattle.stack_vm.specs.declared.operation.Operation.{Operation}
 use Rattle.stack_vm.specs.declared.machine.State.{State}
 use Rattle.stack_vm.specs.declared.machine.Frame.{Frame}
 use Rattle.stack_vm.specs.declared.machine.Next.{Next}
@@ -35,10 +35,10 @@ StandsNext fs f old words (Print s x) = Stands fs f s words × (s.base ≡ old.b
 StandsNext fs f old words (Trapped kind) = Unit {0}
 
 -- the instruction here is fine at its height, which fits into the words
-pub record IsNext (fs : List LinkedFn) (f : LinkedFn) (s : State) (words : ℕ) (i : Instruction) : Type 0 where
+pub record IsNext (fs : List LinkedFn) (f : LinkedFn) (s : State) (words : ℕ) (i : Operation) : Type 0 where
   pub fine : IsFine fs f s.place (height f s) i
   pub below : s.top ≤ words
-  pub short : s.place < 2 ^ 16
+  pub short : s.place < 2 ^ 25
   -- wherever the machine goes from here, there is room for what is there
   pub room : (place height : ℕ) → At fs f place height → s.base + f.slots + height ≤ words
 

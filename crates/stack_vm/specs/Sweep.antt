@@ -3,11 +3,11 @@ use Rattle.std.specs.Prelude.{◌≡◌, ℕ, ◌+◌, ◌*◌, ◌<◌, ◌≤�
 use Rattle.std.specs.List.{AllByRecursion}
 use Rattle.object_format.specs.Image.{LinkedFn}
 use Rattle.object_format.specs.Reading.{code_fault}
-use Rattle.stack_vm.specs.Instruction.{size, placed}
+use Rattle.stack_vm.specs.Operation.{size, placed}
 use Rattle.stack_vm.specs.Heights.{taken, left_by, jumps_to, handed_on, brings, first_at, as_number, Shows, reached, at_start, heights, greatest}
 use Rattle.stack_vm.specs.Faults.{lacks_slot, is_return, IsWithin}
-use Rattle.stack_vm.specs.declared.instruction.Instruction.{Instruction}
-use Rattle.stack_vm.specs.declared.instruction.Placed.{Placed}
+use Rattle.stack_vm.specs.declared.operation.Operation.{Operation}
+use Rattle.stack_vm.specs.declared.operation.Placed.{Placed}
 use Rattle.stack_vm.specs.declared.sweeping.Way.{Way}
 
 -- what was noted stays
@@ -23,7 +23,7 @@ pub record Arrives (handed : Option ℕ) (offset : ℕ) (old : List ℕ) (height
   pub noted : new ≡ slice_set old offset height
 
 -- an instruction finds its words and its slot, and this is its way
-pub record Leads (fs : List LinkedFn) (f : LinkedFn) (i : Instruction) (height : ℕ) (w : Way) : Type 0 where
+pub record Leads (fs : List LinkedFn) (f : LinkedFn) (i : Operation) (height : ℕ) (w : Way) : Type 0 where
   pub slot : lacks_slot i f.slots ≡ false
   pub words : taken fs i ≤ height
   pub leaves : is_return i ≡ true → height ≡ f.«result»
@@ -46,18 +46,18 @@ pub record Settled (fs : List LinkedFn) (f : LinkedFn) (numbers : List ℕ) (p :
   pub within : p.offset < length numbers
   pub stands : slice_index numbers p.offset ≡ height
   pub small : height < 4294967295
-  pub slot : lacks_slot p.instruction f.slots ≡ false
-  pub words : taken fs p.instruction ≤ height
-  pub leaves : is_return p.instruction ≡ true → height ≡ f.«result»
-  pub there : (to : ℕ) → jumps_to p.instruction ≡ Some to → (to < length numbers) × (slice_index numbers to ≡ left_by fs p.instruction height)
-  pub low : left_by fs p.instruction height < 4294967295
+  pub slot : lacks_slot p.operation f.slots ≡ false
+  pub words : taken fs p.operation ≤ height
+  pub leaves : is_return p.operation ≡ true → height ≡ f.«result»
+  pub there : (to : ℕ) → jumps_to p.operation ≡ Some to → (to < length numbers) × (slice_index numbers to ≡ left_by fs p.operation height)
+  pub low : left_by fs p.operation height < 4294967295
 
 -- what is known where the pass has come to an offset
 pub record Swept (fs : List LinkedFn) (f : LinkedFn) (offset : ℕ) (handed : Option ℕ) (most : ℕ) (numbers : List ℕ) : Type 0 where
   pub done : List Placed
   pub all : done ++ placed offset 0 (drop offset f.code) ≡ placed 0 0 f.code
   pub within : offset ≤ length f.code
-  pub whole : (count : ℕ) × (code_fault count offset 0 (drop offset f.code) ≡ None)
+  pub whole : (count : Option ℕ) × (code_fault count offset (drop offset f.code) ≡ None)
   pub long : length numbers ≡ length f.code
   pub gives : handed ≡ (reached fs at_start done).handed
   pub low : (h : ℕ) → handed ≡ Some h → h ≤ 255 * offset

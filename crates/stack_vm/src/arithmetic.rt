@@ -4,26 +4,27 @@ ghost use Rattle.std.specs.Prelude.{◌≡◌, ℤ, ◌+ℤ◌, ◌-ℤ◌, ◌*
 ghost use lib.Signed.{lt_z};
 ghost use Rattle.std.specs.Int.{int_wrap, w64};
 ghost use Rattle.std.specs.Ordering.{int_eq};
-ghost use Rattle.stack_vm.specs.Words.{quotient, remainder, truth, opposite};
+ghost use Rattle.stack_vm.specs.Words.{quotient, remainder, truth, opposite, computed};
 
 use crate::end::Kind;
+use object_format::Operator;
 
 #[inline(always)]
-pub fn sum(a: i64, b: i64) -> i64
+fn sum(a: i64, b: i64) -> i64
     ensures { result ≡ int_wrap w64 (a +ℤ b) }
 {
     a.wrapping_add(b)
 }
 
 #[inline(always)]
-pub fn difference(a: i64, b: i64) -> i64
+fn difference(a: i64, b: i64) -> i64
     ensures { result ≡ int_wrap w64 (a -ℤ b) }
 {
     a.wrapping_sub(b)
 }
 
 #[inline(always)]
-pub fn product(a: i64, b: i64) -> i64
+fn product(a: i64, b: i64) -> i64
     ensures { result ≡ int_wrap w64 (a *ℤ b) }
 {
     a.wrapping_mul(b)
@@ -37,7 +38,7 @@ pub fn negated(a: i64) -> i64
 }
 
 #[inline(always)]
-pub fn divided(a: i64, b: i64) -> Result<i64, Kind>
+fn divided(a: i64, b: i64) -> Result<i64, Kind>
     ensures { result ≡ quotient a b }
 {
     if b == 0 {
@@ -50,7 +51,7 @@ pub fn divided(a: i64, b: i64) -> Result<i64, Kind>
 }
 
 #[inline(always)]
-pub fn rest(a: i64, b: i64) -> Result<i64, Kind>
+fn rest(a: i64, b: i64) -> Result<i64, Kind>
     ensures { result ≡ remainder a b }
 {
     if b == 0 {
@@ -70,7 +71,7 @@ pub fn word(b: bool) -> i64
 }
 
 #[inline(always)]
-pub fn is_less(a: i64, b: i64) -> bool
+fn is_less(a: i64, b: i64) -> bool
     ensures { result ≡ lt_z a b }
 {
     a < b
@@ -81,4 +82,24 @@ pub fn is_equal(a: i64, b: i64) -> bool
     ensures { result ≡ int_eq a b }
 {
     a == b
+}
+
+/// What an operator makes of a and, above it, b.
+#[inline(always)]
+pub fn computed(operator: Operator, a: i64, b: i64) -> Result<i64, Kind>
+    ensures { result ≡ computed operator a b }
+{
+    match operator {
+        Operator::Add => Ok(sum(a, b)),
+        Operator::Sub => Ok(difference(a, b)),
+        Operator::Mul => Ok(product(a, b)),
+        Operator::Div => divided(a, b),
+        Operator::Rem => rest(a, b),
+        Operator::Equal => Ok(word(is_equal(a, b))),
+        Operator::NotEqual => Ok(word(!is_equal(a, b))),
+        Operator::Less => Ok(word(is_less(a, b))),
+        Operator::AtMost => Ok(word(!is_less(b, a))),
+        Operator::Greater => Ok(word(is_less(b, a))),
+        Operator::AtLeast => Ok(word(!is_less(a, b))),
+    }
 }

@@ -6,19 +6,20 @@
 //! is done at most once for an image, since the first fault ends the validation. The room for both is
 //! used again from function to function.
 
-ghost use Rattle.std.specs.Prelude.{◌≡◌, ℕ, ◌+◌, ◌-◌, ◌<◌, ◌^◌, length, replicate, false, None, OnOk};
+ghost use Rattle.std.specs.Prelude.{◌≡◌, ℕ, ◌+◌, ◌-◌, ◌<◌, ◌≤◌, ◌^◌, length, replicate, false, None, Option, OnOk};
 ghost use Rattle.lar_bytes.specs.Answers.{Answers};
 ghost use Rattle.object_format.specs.Reading.{code_fault};
-ghost use Rattle.stack_vm.specs.Instruction.{instructions};
+ghost use Rattle.object_format.specs.Version.{max_code};
+ghost use Rattle.stack_vm.specs.Operation.{operations};
 ghost use Rattle.stack_vm.specs.Faults.{checked, judged, Judges};
 
 use crate::crossing::cross;
 use crate::faults::first;
 use crate::heights::{NONE, measure};
-use crate::instruction::{Placed, list};
+use crate::operation::{Placed, list};
 use crate::sweeping::sweep;
 use lar_bytes::OrMemory;
-use object_format::{BadFile, ImageFn, What};
+use object_format::{BadFile, ImageFn, Version, What};
 use std::alloc::{AllocError, Global};
 
 /// Room for what is known of the function at hand, by offset: what the one pass notes; and for the
@@ -74,8 +75,8 @@ fn judge(
     at: u64,
 ) -> Result<u32, BadFile>
     requires fits { at < 2 ^ 62 }
-    requires short { length function.now.code < 2 ^ 16 }
-    requires listed { listed.now ≡ instructions function.now.code }
+    requires short { length function.now.code ≤ max_code }
+    requires listed { listed.now ≡ operations function.now.code }
     requires brought { brought.old ≡ replicate (length function.now.code) (2 ^ 32 - 1) }
     requires found { found.old ≡ replicate (length function.now.code) (2 ^ 32 - 1) }
     requires crossed { crossed.old ≡ replicate (length function.now.code) false }
@@ -97,8 +98,8 @@ fn look_over(
     at: u64,
 ) -> Result<u32, OrMemory<BadFile>>
     requires fits { at < 2 ^ 62 }
-    requires short { length function.now.code < 2 ^ 16 }
-    requires whole { (count : ℕ) × (code_fault count 0 0 function.now.code ≡ None) }
+    requires short { length function.now.code ≤ max_code }
+    requires whole { (count : Option ℕ) × (code_fault count 0 function.now.code ≡ None) }
     ensures { Answers (λ n. n) result (judged functions.now at function.now) }
 {
     let code = function.code();
@@ -126,11 +127,12 @@ pub fn check(
     scratch: &mut Scratch,
     functions: &[ImageFn],
     function: &ImageFn,
+    version: Version,
     at: u64,
 ) -> Result<u32, OrMemory<BadFile>>
     requires fits { at < 2 ^ 61 }
-    requires whole { (count : ℕ) × (code_fault count 0 0 function.now.code ≡ None) }
-    ensures { Answers (λ n. n) result (checked functions.now at function.now) }
+    requires whole { (count : Option ℕ) × (code_fault count 0 function.now.code ≡ None) }
+    ensures { Answers (λ n. n) result (checked functions.now version at function.now) }
 {
     let code = function.code();
     if function.slots() < function.params() {
@@ -141,13 +143,13 @@ pub fn check(
     }
     if code.is_empty() {
         return Err(OrMemory::Refused(BadFile {
-            at: at + 5,
+            at: at + version.code_offset(),
             what: What::End,
         }));
     }
     refill(&mut scratch.noted, code.len())?;
     match sweep(functions, function, code, &mut scratch.noted) {
         Some(greatest) => Ok(greatest),
-        None => look_over(scratch, functions, function, at + 5),
+        None => look_over(scratch, functions, function, at + version.code_offset()),
     }
 }

@@ -2,74 +2,74 @@
 
 ghost use Rattle.std.specs.Prelude.{◌≡◌, ℕ, ◌+◌, ◌*◌, ◌<◌, ◌≤◌, ◌^◌, [], ◌∷◌, ◌++◌, length, max, Some, None, Option, List, unwrap_or};
 ghost use Rattle.std.specs.Prelude.{slice_get};
-ghost use Rattle.stack_vm.specs.declared.instruction.Placed.{Placed};
+ghost use Rattle.stack_vm.specs.declared.operation.Placed.{Placed};
 ghost use Rattle.stack_vm.specs.Heights.{taken, pushed, left_by, jumps_to, handed_on, brings, as_number, Shows, heights, at_start, greatest};
 
-use crate::instruction::{Instruction, Placed};
+use crate::operation::{Operation, Placed};
 use object_format::ImageFn;
 
 /// No height, in a list of heights by offset.
 pub const NONE: u32 = u32::MAX;
 
 /// The offset to which an instruction may jump.
-pub fn target(instruction: Instruction) -> Option<u32>
-    ensures { result ≡ jumps_to instruction }
+pub fn target(operation: Operation) -> Option<u32>
+    ensures { result ≡ jumps_to operation }
 {
-    match instruction {
-        Instruction::Jump(to) => Some(to),
-        Instruction::JumpZero(to) => Some(to),
+    match operation {
+        Operation::Jump(to) => Some(to),
+        Operation::JumpZero(to) => Some(to),
         _ => None,
     }
 }
 
 /// The height that the next instruction has from this one, which leaves `left`.
-fn handed(instruction: Instruction, left: u32) -> Option<u32>
-    ensures on { result ≡ handed_on instruction left }
+fn handed(operation: Operation, left: u32) -> Option<u32>
+    ensures on { result ≡ handed_on operation left }
     ensures same { (n : ℕ) → result ≡ Some n → n ≡ left }
 {
-    match instruction {
-        Instruction::Jump(_) => None,
-        Instruction::Return => None,
-        Instruction::Trap => None,
+    match operation {
+        Operation::Jump(_) => None,
+        Operation::Return => None,
+        Operation::Trap => None,
         _ => Some(left),
     }
 }
 
 /// How many words an instruction takes, and how many it pushes then.
-pub fn effect(functions: &[ImageFn], instruction: Instruction) -> (u8, u8)
-    ensures takes { result.0 ≡ taken functions.now instruction }
-    ensures pushes { result.1 ≡ pushed functions.now instruction }
+pub fn effect(functions: &[ImageFn], operation: Operation) -> (u8, u8)
+    ensures takes { result.0 ≡ taken functions.now operation }
+    ensures pushes { result.1 ≡ pushed functions.now operation }
 {
-    match instruction {
-        Instruction::Push8(_) => (0, 1),
-        Instruction::Push64(_) => (0, 1),
-        Instruction::Load(_) => (0, 1),
-        Instruction::Store(_) => (1, 0),
-        Instruction::Pop => (1, 0),
-        Instruction::Dup => (1, 2),
-        Instruction::Nop => (0, 0),
-        Instruction::Neg => (1, 1),
-        Instruction::Not => (1, 1),
-        Instruction::Jump(_) => (0, 0),
-        Instruction::JumpZero(_) => (1, 0),
-        Instruction::Call(number) => match functions.get(number as usize) {
+    match operation {
+        Operation::Push8(_) => (0, 1),
+        Operation::Push64(_) => (0, 1),
+        Operation::Load(_) => (0, 1),
+        Operation::Store(_) => (1, 0),
+        Operation::Pop => (1, 0),
+        Operation::Dup => (1, 2),
+        Operation::Nop => (0, 0),
+        Operation::Neg => (1, 1),
+        Operation::Not => (1, 1),
+        Operation::Jump(_) => (0, 0),
+        Operation::JumpZero(_) => (1, 0),
+        Operation::Call(number) => match functions.get(number as usize) {
             Some(function) => (function.params(), function.result()),
             None => (0, 0),
         },
-        Instruction::Return => (0, 0),
-        Instruction::Print => (1, 0),
-        Instruction::Trap => (0, 0),
-        _ => (2, 1),
+        Operation::Return => (0, 0),
+        Operation::Print => (1, 0),
+        Operation::Trap => (0, 0),
+        Operation::Compute(_) => (2, 1),
     }
 }
 
 /// The height that an instruction leaves.
-pub fn leaves(functions: &[ImageFn], instruction: Instruction, height: u32) -> u32
-    requires { height < 4_278_190_080 }
-    ensures left { result ≡ left_by functions.now instruction height }
+pub fn leaves(functions: &[ImageFn], operation: Operation, height: u32) -> u32
+    requires { height < 4_294_000_000 }
+    ensures left { result ≡ left_by functions.now operation height }
     ensures small { result ≤ height + 255 }
 {
-    let (takes, pushes) = effect(functions, instruction);
+    let (takes, pushes) = effect(functions, operation);
     height.saturating_sub(u32::from(takes)) + u32::from(pushes)
 }
 
@@ -95,11 +95,11 @@ fn note(numbers: &mut [u32], to: u32, height: u32)
 }
 
 /// Notes what an instruction brings to the offset to which it may jump.
-fn bring(brought: &mut [u32], instruction: Instruction, left: u32)
+fn bring(brought: &mut [u32], operation: Operation, left: u32)
     ensures { (jumps : List (ℕ × ℕ)) (limit : ℕ) → Shows jumps brought.old limit → left ≤ limit → limit < 4_294_967_295
-        → Shows (jumps ++ brings (jumps_to instruction) left) brought.new limit }
+        → Shows (jumps ++ brings (jumps_to operation) left) brought.new limit }
 {
-    if let Some(to) = target(instruction) {
+    if let Some(to) = target(operation) {
         note(brought, to, left);
     }
 }
@@ -118,11 +118,11 @@ pub fn measure(
     brought: &mut [u32],
     found: &mut [u32],
 ) -> u32
-    requires few { length listed.now < 2 ^ 16 }
+    requires few { length listed.now ≤ 16_777_216 }
     requires places { (k : ℕ) (p : Placed) → slice_get listed.now k ≡ Some p → p.offset < length brought.old }
     requires brought { Shows [] brought.old 0 }
     requires found { Shows [] found.old 0 }
-    ensures found { Shows (heights functions.now at_start listed.now) found.new (255 * 65_536) }
+    ensures found { Shows (heights functions.now at_start listed.now) found.new (255 * 16_777_216) }
     ensures greatest { result ≡ greatest (heights functions.now at_start listed.now) }
 {
     let mut before = Some(0);
@@ -131,9 +131,9 @@ pub fn measure(
         let height = here(before, brought[placed.offset as usize]);
         note(found, placed.offset, height);
         most = larger(most, height);
-        let left = leaves(functions, placed.instruction, height);
-        bring(brought, placed.instruction, left);
-        before = handed(placed.instruction, left);
+        let left = leaves(functions, placed.operation, height);
+        bring(brought, placed.operation, left);
+        before = handed(placed.operation, left);
     }
     most
 }

@@ -9,7 +9,7 @@
 
 ghost use Rattle.std.specs.Prelude.{◌≡◌, ◌+◌, ◌-◌, ◌<◌, ◌≤◌, length, slice_get, Some, IfSome, ◌^◌, vec_capacity, map};
 ghost use Rattle.object_format.specs.Image.{LinkedFn};
-ghost use Rattle.stack_vm.specs.Instruction.{instruction_at};
+ghost use Rattle.stack_vm.specs.Operation.{operation_at};
 ghost use Rattle.stack_vm.specs.Heights.{greatest_of};
 ghost use Rattle.stack_vm.specs.Sound.{Leaves, IsSound, AllSound};
 ghost use Rattle.stack_vm.specs.Standing.{height, CallGives, LeaveGives, Runs, RunsOn, CanCall, Stands, StandsNext, IsNext};
@@ -18,12 +18,10 @@ ghost use Rattle.stack_vm.specs.Effect as spec;
 ghost use Rattle.std.specs.Prelude.{take, [], ◌∷◌, ◌++◌, slice_set, pos, if◌then◌else◌};
 ghost use Rattle.std.specs.Ordering.{int_eq};
 
-use crate::arithmetic::{
-    difference, divided, is_equal, is_less, negated, product, rest, sum, word,
-};
+use crate::arithmetic::{computed, is_equal, negated, word};
 use crate::copies::{clear, move_down};
 use crate::end::Kind;
-use crate::instruction::{Instruction, read};
+use crate::operation::{Operation, read};
 use object_format::ImageFn;
 
 /// The most frames.
@@ -74,11 +72,11 @@ fn fetch(
     code: &[u8],
     words: &[i64],
     state: State,
-) -> Instruction
+) -> Operation
     requires code { code.now ≡ function.now.code }
     requires stands { Stands functions.now function.now state (length words.now) }
     ensures next { IsNext functions.now function.now state (length words.now) result }
-    ensures is { instruction_at function.now.code state.place ≡ Some result }
+    ensures is { operation_at function.now.code state.place ≡ Some result }
 {
     read(code, state.place)
 }
@@ -165,103 +163,47 @@ pub fn step(
     requires code { code.now ≡ function.now.code }
     requires stands { Stands functions.now function.now state (length words.old) }
     ensures safe { StandsNext functions.now function.now state (length words.new) result }
-    ensures did { DidAt (take state.top words.old) state (instruction_at function.now.code state.place) result (take (height_after state result) words.new) }
+    ensures did { DidAt (take state.top words.old) state (operation_at function.now.code state.place) result (take (height_after state result) words.new) }
 {
     match fetch(functions, function, code, words, state) {
-        Instruction::Push8(value) => Next::Went(put(words, state, 0, i64::from(value), 2)),
-        Instruction::Push64(value) => Next::Went(put(words, state, 0, value, 9)),
-        Instruction::Load(slot) => {
+        Operation::Push8(value) => Next::Went(put(words, state, 0, i64::from(value), 2)),
+        Operation::Push64(value) => Next::Went(put(words, state, 0, value, 9)),
+        Operation::Load(slot) => {
             let value = words[state.base + slot as usize];
             Next::Went(put(words, state, 0, value, 2))
         }
-        Instruction::Store(slot) => {
+        Operation::Store(slot) => {
             store(words, state, slot);
             Next::Went(go(state, 1, state.place + 2))
         }
-        Instruction::Pop => Next::Went(go(state, 1, state.place + 1)),
-        Instruction::Dup => {
+        Operation::Pop => Next::Went(go(state, 1, state.place + 1)),
+        Operation::Dup => {
             let a = under(words, state.top, 0);
             Next::Went(put(words, state, 0, a, 1))
         }
-        Instruction::Nop => Next::Went(go(state, 0, state.place + 1)),
-        Instruction::Add => {
+        Operation::Nop => Next::Went(go(state, 0, state.place + 1)),
+        Operation::Compute(operator) => {
             let b = under(words, state.top, 0);
             let a = under(words, state.top, 1);
-            Next::Went(put(words, state, 2, sum(a, b), 1))
-        }
-        Instruction::Sub => {
-            let b = under(words, state.top, 0);
-            let a = under(words, state.top, 1);
-            Next::Went(put(words, state, 2, difference(a, b), 1))
-        }
-        Instruction::Mul => {
-            let b = under(words, state.top, 0);
-            let a = under(words, state.top, 1);
-            Next::Went(put(words, state, 2, product(a, b), 1))
-        }
-        Instruction::Equal => {
-            let b = under(words, state.top, 0);
-            let a = under(words, state.top, 1);
-            Next::Went(put(words, state, 2, word(is_equal(a, b)), 1))
-        }
-        Instruction::NotEqual => {
-            let b = under(words, state.top, 0);
-            let a = under(words, state.top, 1);
-            Next::Went(put(words, state, 2, word(!is_equal(a, b)), 1))
-        }
-        Instruction::Less => {
-            let b = under(words, state.top, 0);
-            let a = under(words, state.top, 1);
-            Next::Went(put(words, state, 2, word(is_less(a, b)), 1))
-        }
-        Instruction::AtMost => {
-            let b = under(words, state.top, 0);
-            let a = under(words, state.top, 1);
-            Next::Went(put(words, state, 2, word(!is_less(b, a)), 1))
-        }
-        Instruction::Greater => {
-            let b = under(words, state.top, 0);
-            let a = under(words, state.top, 1);
-            Next::Went(put(words, state, 2, word(is_less(b, a)), 1))
-        }
-        Instruction::AtLeast => {
-            let b = under(words, state.top, 0);
-            let a = under(words, state.top, 1);
-            Next::Went(put(words, state, 2, word(!is_less(a, b)), 1))
-        }
-        Instruction::Div => {
-            let b = under(words, state.top, 0);
-            let a = under(words, state.top, 1);
-            match divided(a, b) {
+            match computed(operator, a, b) {
                 Ok(value) => Next::Went(put(words, state, 2, value, 1)),
                 Err(kind) => Next::Trapped(kind),
             }
         }
-        Instruction::Rem => {
-            let b = under(words, state.top, 0);
-            let a = under(words, state.top, 1);
-            match rest(a, b) {
-                Ok(value) => Next::Went(put(words, state, 2, value, 1)),
-                Err(kind) => Next::Trapped(kind),
-            }
-        }
-        Instruction::Neg => {
+        Operation::Neg => {
             let a = under(words, state.top, 0);
             Next::Went(put(words, state, 1, negated(a), 1))
         }
-        Instruction::Not => {
+        Operation::Not => {
             let a = under(words, state.top, 0);
             Next::Went(put(words, state, 1, word(is_equal(a, 0)), 1))
         }
-        Instruction::Jump(to) => Next::Went(go(state, 0, to as usize)),
-        Instruction::JumpZero(to) => Next::Went(branch(words, state, to)),
-        Instruction::Call(callee) => Next::Call(callee),
-        Instruction::Return => Next::Return,
-        Instruction::Print => Next::Print(
-            go(state, 1, state.place + 1),
-            under(words, state.top, 0),
-        ),
-        Instruction::Trap => Next::Trapped(Kind::Trap),
+        Operation::Jump(to) => Next::Went(go(state, 0, to as usize)),
+        Operation::JumpZero(to) => Next::Went(branch(words, state, to)),
+        Operation::Call(callee) => Next::Call(callee),
+        Operation::Return => Next::Return,
+        Operation::Print => Next::Print(go(state, 1, state.place + 1), under(words, state.top, 0)),
+        Operation::Trap => Next::Trapped(Kind::Trap),
     }
 }
 

@@ -8,11 +8,12 @@
 
 ghost use Rattle.std.specs.Prelude.{◌≡◌, ℕ, ◌+◌, ◌-◌, ◌<◌, ◌≤◌, ◌^◌, length, slice_index, replicate, Some, None, Ok, Option, IfSome, IsTrue};
 ghost use Rattle.object_format.specs.Reading.{code_fault};
+ghost use Rattle.object_format.specs.Version.{max_code};
 ghost use Rattle.stack_vm.specs.Faults.{Judges};
 ghost use Rattle.stack_vm.specs.Sweep.{Arrives, Leads, Agrees};
 
 use crate::heights::{NONE, here, larger};
-use crate::instruction::{Instruction, read};
+use crate::operation::{Operation, read};
 use object_format::ImageFn;
 
 /// Where an instruction leads from its height.
@@ -31,7 +32,7 @@ pub struct Way {
 /// On to the next instruction, where there are words enough.
 #[inline(always)]
 fn on(height: u32, takes: u8, pushes: u8, size: usize) -> Option<Way>
-    requires { height < 4_278_190_080 }
+    requires { height < 4_294_000_000 }
     ensures { IfSome result (λ way. (takes ≤ height) × (way ≡ record { left = (height - takes) + pushes; handed = Some ((height - takes) + pushes); target = None; size = size })) }
 {
     let left = height.checked_sub(u32::from(takes))? + u32::from(pushes);
@@ -61,40 +62,40 @@ fn end(height: u32) -> Way
 fn follow(
     functions: &[ImageFn],
     function: &ImageFn,
-    instruction: Instruction,
+    operation: Operation,
     height: u32,
 ) -> Option<Way>
-    requires { height < 4_278_190_080 }
-    ensures { IfSome result (λ way. Leads functions.now function.now instruction height way) }
+    requires { height < 4_294_000_000 }
+    ensures { IfSome result (λ way. Leads functions.now function.now operation height way) }
 {
-    match instruction {
-        Instruction::Push8(_) => on(height, 0, 1, 2),
-        Instruction::Push64(_) => on(height, 0, 1, 9),
-        Instruction::Load(slot) if slot < function.slots() => on(height, 0, 1, 2),
-        Instruction::Store(slot) if slot < function.slots() => on(height, 1, 0, 2),
-        Instruction::Load(_) | Instruction::Store(_) => None,
-        Instruction::Pop | Instruction::Print => on(height, 1, 0, 1),
-        Instruction::Dup => on(height, 1, 2, 1),
-        Instruction::Nop => on(height, 0, 0, 1),
-        Instruction::Neg | Instruction::Not => on(height, 1, 1, 1),
-        Instruction::Jump(to) => Some(Way {
+    match operation {
+        Operation::Push8(_) => on(height, 0, 1, 2),
+        Operation::Push64(_) => on(height, 0, 1, 9),
+        Operation::Load(slot) if slot < function.slots() => on(height, 0, 1, 2),
+        Operation::Store(slot) if slot < function.slots() => on(height, 1, 0, 2),
+        Operation::Load(_) | Operation::Store(_) => None,
+        Operation::Pop | Operation::Print => on(height, 1, 0, 1),
+        Operation::Dup => on(height, 1, 2, 1),
+        Operation::Nop => on(height, 0, 0, 1),
+        Operation::Neg | Operation::Not => on(height, 1, 1, 1),
+        Operation::Jump(to) => Some(Way {
             handed: None,
             target: Some(to),
             left: height,
             size: 5,
         }),
-        Instruction::JumpZero(to) => Some(Way {
+        Operation::JumpZero(to) => Some(Way {
             target: Some(to),
             ..on(height, 1, 0, 5)?
         }),
-        Instruction::Call(number) => {
+        Operation::Call(number) => {
             let callee = functions.get(number as usize)?;
             on(height, callee.params(), callee.result(), 5)
         }
-        Instruction::Return if height == u32::from(function.result()) => Some(end(height)),
-        Instruction::Return => None,
-        Instruction::Trap => Some(end(height)),
-        _ => on(height, 2, 1, 1),
+        Operation::Return if height == u32::from(function.result()) => Some(end(height)),
+        Operation::Return => None,
+        Operation::Trap => Some(end(height)),
+        Operation::Compute(_) => on(height, 2, 1, 1),
     }
 }
 
@@ -167,8 +168,8 @@ pub fn sweep(
     noted: &mut [u32],
 ) -> Option<u32>
     requires code { code.now ≡ function.now.code }
-    requires short { length function.now.code < 2 ^ 16 }
-    requires whole { (count : ℕ) × (code_fault count 0 0 function.now.code ≡ None) }
+    requires short { length function.now.code ≤ max_code }
+    requires whole { (count : Option ℕ) × (code_fault count 0 function.now.code ≡ None) }
     requires noted { noted.old ≡ replicate (length function.now.code) (2 ^ 32 - 1) }
     ensures { IfSome result (λ most. (at : ℕ) → Judges functions.now at function.now (Ok most)) }
 {

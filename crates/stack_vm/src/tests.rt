@@ -1,6 +1,6 @@
 use crate::{End, MemorySink, Valid, run, validate};
 use lar_bytes::OrMemory;
-use object_format::{BadFile, Image, read_image};
+use object_format::{BadFile, image_version, read_image};
 use std::alloc::{AllocError, Global};
 
 mod limits;
@@ -15,27 +15,33 @@ pub struct Ran {
     pub text: Vec<u8>,
 }
 
-// An image of one function without params and result.
-pub fn alone(alloc: Global, slots: u8, code: &[u8]) -> Result<Vec<u8>, AllocError> {
-    let mut bytes = Vec::from_slice(
-        alloc,
-        b"LRPX\x00\x01\x00\x00\x00\x00\x00\x00\x00\x01\x00\x00",
-    )?;
+// An image, in this version, of one function without params and result.
+pub fn alone_in(alloc: Global, version: u8, slots: u8, code: &[u8]) -> Result<Vec<u8>, AllocError> {
+    let mut bytes = Vec::from_slice(alloc, b"LRPX\x00")?;
+    bytes.push(version)?;
+    bytes.extend_from_slice(b"\x00\x00\x00\x00\x00\x00\x00\x01\x00\x00")?;
     bytes.push(slots)?;
+    if version != 1 {
+        bytes.extend_from_slice(&[0, 0])?;
+    }
     bytes.extend_from_slice(&u16::try_from(code.len()).unwrap_or(0).to_be_bytes())?;
     bytes.extend_from_slice(code)?;
     Ok(bytes)
 }
 
-fn image_of(alloc: Global, bytes: &[u8]) -> Option<Image> {
+pub fn alone(alloc: Global, slots: u8, code: &[u8]) -> Result<Vec<u8>, AllocError> {
+    alone_in(alloc, 1, slots, code)
+}
+
+fn validated(alloc: Global, bytes: &[u8]) -> Option<Result<Valid, OrMemory<BadFile>>> {
     match read_image(alloc, bytes) {
-        Ok(image) => Some(image),
+        Ok(image) => Some(validate(alloc, image, image_version(bytes))),
         Err(_) => None,
     }
 }
 
 pub fn valid_of(alloc: Global, bytes: &[u8]) -> Option<Valid> {
-    match validate(alloc, image_of(alloc, bytes)?) {
+    match validated(alloc, bytes)? {
         Ok(valid) => Some(valid),
         Err(_) => None,
     }
@@ -43,7 +49,7 @@ pub fn valid_of(alloc: Global, bytes: &[u8]) -> Option<Valid> {
 
 // The first fault of the image that the bytes spell.
 pub fn fault_of(alloc: Global, bytes: &[u8]) -> Option<BadFile> {
-    match validate(alloc, image_of(alloc, bytes)?) {
+    match validated(alloc, bytes)? {
         Err(OrMemory::Refused(fault)) => Some(fault),
         _ => None,
     }

@@ -1,8 +1,9 @@
 //! An image that was validated, with the room that its run takes.
 
-ghost use Rattle.std.specs.Prelude.{◌≡◌, Some, true, false, OnOk, OnErr};
+ghost use Rattle.std.specs.Prelude.{◌≡◌, ◌⊎◌, Some, true, false, OnOk, OnErr};
 ghost use Rattle.lar_bytes.specs.Answers.{Answers};
 ghost use Rattle.object_format.specs.Reading.{unless};
+ghost use Rattle.object_format.specs.Version.{version_numbered};
 ghost use Rattle.stack_vm.specs.Faults.{image_fault};
 ghost use Rattle.stack_vm.specs.Acts.{Ran, runs_of};
 ghost use Rattle.stack_vm.specs.Running.{RunLeaves};
@@ -13,7 +14,7 @@ use crate::machine::{Frame, MOST_FRAMES, ROOM, TEXT_ROOM};
 use crate::running::run_from;
 use crate::validating::{entry_fault, greatest_heights};
 use lar_bytes::OrMemory;
-use object_format::{BadFile, Image};
+use object_format::{BadFile, Image, Version};
 use std::alloc::{AllocError, Global};
 use std::marker::Model;
 
@@ -42,14 +43,16 @@ impl Model for Valid {
 
 /// The image with the greatest height of each of its functions, or its first fault: that of the
 /// entry, else the first one in the order of its functions, then by offset, then by the order of the
-/// rules. `at` counts from the first byte of the image's spelling.
-pub fn validate(alloc: Global, image: Image) -> Result<Valid, OrMemory<BadFile>>
-    ensures { Answers (λ valid. valid) result (unless (image_fault image) (record { image = image; reserved = false })) }
+/// rules. `at` counts from the first byte of the image's spelling in this version, which is 1 or 2.
+pub fn validate(alloc: Global, image: Image, version: u16) -> Result<Valid, OrMemory<BadFile>>
+    requires { (version ≡ 1) ⊎ (version ≡ 2) }
+    ensures { Answers (λ valid. valid) result (unless (image_fault (version_numbered version) image) (record { image = image; reserved = false })) }
 {
+    let version = Version::numbered(version);
     if let Some(fault) = entry_fault(&image) {
         return Err(OrMemory::Refused(fault));
     }
-    let greatest = greatest_heights(alloc, &image)?;
+    let greatest = greatest_heights(alloc, &image, version)?;
     Ok(Valid {
         image,
         greatest,

@@ -1,6 +1,7 @@
 -- What the definitions compute on worked objects.
 use Rattle.std.proofs.Common.{◌≡◌, [], ◌∷◌, Ok, Err, refl, true, false}
 use Rattle.std.specs.Prelude.{codes}
+use Rattle.object_format.specs.Code.{instructions}
 use Rattle.object_format.specs.Object.{Unlinked, UnlinkedFn}
 use Rattle.symbol_link.specs.declared.fault.LinkFault.TheVariants.{Twice, Undefined, NoEntry}
 use Rattle.symbol_link.specs.Relocation.{relocated}
@@ -29,7 +30,7 @@ unfoldable pub nothing : Unlinked
 nothing = record { functions = []; externals = [] }
 
 pub linked-main_alone : linked (main_alone ∷ []) ≡ Ok (record { entry = 0; functions = record { params = 0; «result» = 0; slots = 0; code = 0x01 ∷ 0x07 ∷ 0x17 ∷ 0x16 ∷ [] } ∷ [] })
-unfolding linked main_alone relocated
+unfolding linked main_alone relocated instructions
 linked-main_alone = refl
 
 pub linked-twice : linked (main_alone ∷ main_alone ∷ []) ≡ Err (Twice (codes "main::main") 0 1)
@@ -49,7 +50,7 @@ pub linked-both : linked (b ∷ m ∷ []) ≡ Ok (record {
       ∷ record { params = 1; «result» = 1; slots = 1; code = 0x03 ∷ 0 ∷ 0x01 ∷ 1 ∷ 0x06 ∷ 0x16 ∷ 0x18 ∷ [] }
       ∷ [];
 })
-unfolding linked b m inc relocated
+unfolding linked b m inc relocated instructions
 linked-both = refl
 
 pub linked-undefined : linked (m ∷ []) ≡ Err (Undefined (codes "b::go") 0)

@@ -7,31 +7,32 @@ use Rattle.std.specs.Prelude.{map}
 use Rattle.object_format.specs.Code.{IsLinkedCode}
 use Rattle.object_format.specs.Image.{LinkedFn, function_spelling, image_spelling}
 use Rattle.object_format.specs.Object.{Unlinked, UnlinkedFn, IsUnlinked, callee_count}
+use Rattle.object_format.specs.declared.version.Version.TheVariants.{Two}
 use Rattle.symbol_link.specs.declared.definitions.Definition.{Definition}
 use Rattle.symbol_link.specs.Linked.{placed, placed_all, places_of, callee, functions_from, image_of}
 use Rattle.symbol_link.specs.Sizes.{size_of, sizes_of, image_size}
 use Rattle.symbol_link.specs.Symbols.{definition_of, function_count}
 use Rattle.symbol_link.proofs.Moved.{length-relocated}
 
-length-function : (f : LinkedFn) → length (function_spelling f) ≡ 5 + length f.code
+length-function : (f : LinkedFn) → length (function_spelling Two f) ≡ 7 + length f.code
 length-function f = omega arith
 
-length-placed : (place : ℕ → ℕ) (reach : ℕ) (fs : List UnlinkedFn) → AllByRecursion (λ f. IsLinkedCode reach f.code) fs → length (flat_map function_spelling (map (placed place) fs)) ≡ size_of fs
+length-placed : (place : ℕ → ℕ) (reach : ℕ) (fs : List UnlinkedFn) → AllByRecursion (λ f. IsLinkedCode reach f.code) fs → length (flat_map (function_spelling Two) (map (placed place) fs)) ≡ size_of fs
 length-placed place reach [] h = refl
 length-placed place reach (f ∷ fs) h =
-    let first = length-function (placed place f) ∙ ap (λ (n : ℕ). 5 + n) (length-relocated place reach f.code h.0) in
-    length-append (function_spelling (placed place f)) (flat_map function_spelling (map (placed place) fs))
-    ∙ ap (λ (n : ℕ). n + length (flat_map function_spelling (map (placed place) fs))) first
-    ∙ ap (λ (n : ℕ). 5 + length f.code + n) (length-placed place reach fs h.1)
+    let first = length-function (placed place f) ∙ ap (λ (n : ℕ). 7 + n) (length-relocated place reach f.code h.0) in
+    length-append (function_spelling Two (placed place f)) (flat_map (function_spelling Two) (map (placed place) fs))
+    ∙ ap (λ (n : ℕ). n + length (flat_map (function_spelling Two) (map (placed place) fs))) first
+    ∙ ap (λ (n : ℕ). 7 + length f.code + n) (length-placed place reach fs h.1)
 
-length-functions : (definitions : List ℕ → Option Definition) (start : ℕ) (os : List Unlinked) → AllByRecursion IsUnlinked os → length (flat_map function_spelling (functions_from definitions start os)) ≡ sizes_of os
+length-functions : (definitions : List ℕ → Option Definition) (start : ℕ) (os : List Unlinked) → AllByRecursion IsUnlinked os → length (flat_map (function_spelling Two) (functions_from definitions start os)) ≡ sizes_of os
 length-functions definitions start [] h = refl
 length-functions definitions start (o ∷ os) h =
     let place = callee start (length o.functions) (places_of definitions o.externals) in
     let others = functions_from definitions (start + length o.functions) os in
-    ap length (flat_map-append function_spelling (placed_all definitions start o) others)
-    ∙ length-append (flat_map function_spelling (placed_all definitions start o)) (flat_map function_spelling others)
-    ∙ ap (λ (n : ℕ). n + length (flat_map function_spelling others)) (length-placed place (callee_count o) o.functions h.0.calls)
+    ap length (flat_map-append (function_spelling Two) (placed_all definitions start o) others)
+    ∙ length-append (flat_map (function_spelling Two) (placed_all definitions start o)) (flat_map (function_spelling Two) others)
+    ∙ ap (λ (n : ℕ). n + length (flat_map (function_spelling Two) others)) (length-placed place (callee_count o) o.functions h.0.calls)
     ∙ ap (λ (n : ℕ). size_of o.functions + n) (length-functions definitions (start + length o.functions) os h.1)
 
 -- the image's spelling is as long as the objects say

@@ -1,5 +1,4 @@
 pub mod Callees
-pub mod Copying
 pub mod Defining
 pub mod Faults
 pub mod Found

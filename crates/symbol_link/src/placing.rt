@@ -13,7 +13,7 @@ ghost use Rattle.symbol_link.specs.Symbols.{place_of, function_count};
 use crate::definitions::Definitions;
 use crate::relocating::Callees;
 use crate::resolving::places_of;
-use object_format::{Functions, ImageFn, Object, ObjectFn};
+use object_format::{ImageFn, ImageFunctions, Object, ObjectFn};
 use std::alloc::{AllocError, Global};
 
 /// A function of an object as it is in the image.
@@ -28,7 +28,7 @@ fn placed(alloc: Global, callees: &Callees<'_>, function: &ObjectFn) -> Result<I
 /// Puts the functions of an object at the end of an image's.
 fn place_functions(
     alloc: Global,
-    image: &mut Functions,
+    image: &mut ImageFunctions,
     callees: &Callees<'_>,
     functions: &[ObjectFn],
 ) -> Result<(), AllocError>
@@ -44,7 +44,7 @@ fn place_functions(
 /// Puts the functions of an object, the first of which gets the place `start`, at the end of an image's.
 fn place_object(
     alloc: Global,
-    image: &mut Functions,
+    image: &mut ImageFunctions,
     definitions: &Definitions<'_>,
     object: &Object,
     start: usize,
@@ -69,13 +69,13 @@ pub(crate) fn place_all(
     alloc: Global,
     definitions: &Definitions<'_>,
     objects: &[Object],
-) -> Result<Functions, AllocError>
+) -> Result<ImageFunctions, AllocError>
     requires defined { undefined_from (found definitions.now) 0 objects.now ≡ None }
     requires places { (symbol : List ℕ) → place_of (found definitions.now symbol) < 2 ^ 32 }
     requires fits { function_count objects.now ≤ 2 ^ 32 }
     ensures { IfOk result (λ functions. functions ≡ functions_from (found definitions.now) 0 objects.now) }
 {
-    let mut functions = Functions::new(alloc);
+    let mut functions = ImageFunctions::new(alloc);
     for object in objects {
         let start = functions.len();
         place_object(alloc, &mut functions, definitions, object, start)?;

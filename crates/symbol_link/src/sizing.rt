@@ -7,7 +7,7 @@ ghost use Rattle.std.specs.Prelude.{◌≡◌, ◌≤◌, ◌↔◌, IsTrue};
 ghost use Rattle.symbol_link.specs.Linked.{most};
 ghost use Rattle.symbol_link.specs.Sizes.{left_of, size_of, sizes_of, image_size};
 
-use object_format::{Object, ObjectFn};
+use object_format::{Object, ObjectFn, Version};
 
 /// The most bytes that the spelling of an image may have.
 const MOST: u64 = 67_108_864;
@@ -15,16 +15,14 @@ const MOST: u64 = 67_108_864;
 /// The bytes of an image that stand before its functions.
 const HEAD: u64 = 14;
 
-/// The bytes of a function that stand before its code.
-const FUNCTION_HEAD: u64 = 5;
-
 /// What these functions leave of the room, if they have room.
 fn room_behind(room: u64, functions: &[ObjectFn]) -> Option<u64>
     ensures { result ≡ left_of room (size_of functions.now) }
 {
     let mut room = room;
     for function in functions {
-        room = room.checked_sub(FUNCTION_HEAD + function.code().len() as u64)?;
+        let head = Version::Two.code_offset();
+        room = room.checked_sub(head + function.code().len() as u64)?;
     }
     Some(room)
 }

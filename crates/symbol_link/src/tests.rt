@@ -91,7 +91,7 @@ fn one_object_is_linked(rt: HostRuntime) -> Result<(), Fail> {
     let image = image_of(alloc, &objects)?;
     assert_eq!(rt;
         image.as_slice(),
-        b"LRPX\x00\x01\0\0\0\0\0\0\0\x01\0\0\0\0\x04\x01\x07\x17\x16".as_slice()
+        b"LRPX\x00\x02\0\0\0\0\0\0\0\x01\0\0\0\0\0\0\x04\x01\x07\x17\x16".as_slice()
     );
     Ok(())
 }
@@ -103,7 +103,7 @@ fn two_objects_are_linked(rt: HostRuntime) -> Result<(), Fail> {
     let image = image_of(alloc, &objects)?;
     assert_eq!(rt;
         image.as_slice(),
-        b"LRPX\x00\x01\0\0\0\x02\0\0\0\x04\0\0\0\0\x09\x01\x02\x15\0\0\0\x01\x17\x16\x01\x01\x01\0\x07\x03\0\x01\x01\x06\x16\x18\0\0\0\0\x0e\x01\x01\x15\0\0\0\x03\x17\x15\0\0\0\0\x16\x01\x01\x01\0\x07\x03\0\x01\x01\x06\x16\x18".as_slice()
+        b"LRPX\x00\x02\0\0\0\x02\0\0\0\x04\0\0\0\0\0\0\x09\x01\x02\x15\0\0\0\x01\x17\x16\x01\x01\x01\0\0\0\x07\x03\0\x01\x01\x06\x16\x18\0\0\0\0\0\0\x0e\x01\x01\x15\0\0\0\x03\x17\x15\0\0\0\0\x16\x01\x01\x01\0\0\0\x07\x03\0\x01\x01\x06\x16\x18".as_slice()
     );
     Ok(())
 }
@@ -180,12 +180,12 @@ fn calls_go_both_ways(rt: HostRuntime) -> Result<(), Fail> {
     let image = image_of(alloc, &objects)?;
     assert_eq!(rt;
         image.as_slice(),
-        b"LRPX\x00\x01\0\0\0\x04\0\0\0\x05\
-        \0\0\0\0\x0b\x15\0\0\0\x03\x15\0\0\0\x01\x16\
-        \0\0\0\0\x06\x15\0\0\0\x04\x16\
-        \0\0\0\0\x01\x16\
-        \0\0\0\0\x0b\x15\0\0\0\0\x15\0\0\0\x02\x16\
-        \0\0\0\0\x0b\x15\0\0\0\x03\x15\0\0\0\0\x16"
+        b"LRPX\x00\x02\0\0\0\x04\0\0\0\x05\
+        \0\0\0\0\0\0\x0b\x15\0\0\0\x03\x15\0\0\0\x01\x16\
+        \0\0\0\0\0\0\x06\x15\0\0\0\x04\x16\
+        \0\0\0\0\0\0\x01\x16\
+        \0\0\0\0\0\0\x0b\x15\0\0\0\0\x15\0\0\0\x02\x16\
+        \0\0\0\0\0\0\x0b\x15\0\0\0\x03\x15\0\0\0\0\x16"
             .as_slice()
     );
     Ok(())
@@ -252,13 +252,13 @@ fn many_objects_are_linked(rt: HostRuntime) -> Result<(), Fail> {
     }
     objects.push(link_of_chain(alloc, "f255", "main::main")?)?;
     let image = image_of(alloc, objects.as_slice())?;
-    let mut expected = Bytes::copied(alloc, b"LRPX\x00\x01\0\0\0\0\0\0\x01\0")?;
+    let mut expected = Bytes::copied(alloc, b"LRPX\x00\x02\0\0\0\0\0\0\x01\0")?;
     for number in 1..256u32 {
-        expected.append(b"\0\0\0\0\x06\x15")?;
+        expected.append(b"\0\0\0\0\0\0\x06\x15")?;
         expected.append(&number.to_be_bytes())?;
         expected.append(&RETURN)?;
     }
-    expected.append(b"\0\0\0\0\x06\x15\0\0\0\0\x16")?;
+    expected.append(b"\0\0\0\0\0\0\x06\x15\0\0\0\0\x16")?;
     assert_eq!(rt; image.as_slice(), expected.as_slice());
     Ok(())
 }
@@ -273,13 +273,13 @@ fn code_of(code: &[u8], len: u16) -> Result<&[u8], Fail> {
     )
 }
 
-/// An object of 1,024 functions of 65,531 bytes each, but for the last.
+/// An object of 1,024 functions of 65,529 bytes each, but for the last.
 fn large(alloc: Global, first: &str, last: u16) -> Result<Object, Fail> {
     let mut bytes = Bytes::copied(alloc, &[0x16; 8])?;
     for _ in 0..7281u32 {
         bytes.append(&[0x02, 0, 0, 0, 0, 0, 0, 0, 1])?;
     }
-    let code = code_of(bytes.as_slice(), 65_531)?;
+    let code = code_of(bytes.as_slice(), 65_529)?;
     let mut out = Bytes::copied(alloc, b"LROB\x00\x01\0\0\x04\0")?;
     put_function(
         &mut out,
@@ -314,15 +314,15 @@ fn large(alloc: Global, first: &str, last: u16) -> Result<Object, Fail> {
 #[test]
 fn an_image_may_have_so_many_bytes(rt: HostRuntime) -> Result<(), Fail> {
     let alloc = rt.alloc();
-    // 14 bytes, 1,024 times 5, 1,023 times 65,531 and 65,517 are 67,108,864.
-    let most = [large(alloc, "main::main", 65_517)?];
+    // 14 bytes, 1,024 times 7, 1,023 times 65,529 and 65,515 are 67,108,864.
+    let most = [large(alloc, "main::main", 65_515)?];
     assert_eq!(rt; image_of(alloc, &most)?.len(), 67_108_864);
-    let over = [large(alloc, "main::main", 65_518)?];
+    let over = [large(alloc, "main::main", 65_516)?];
     assert_eq!(rt;
         refusal_of(alloc, &over)?.as_str(),
         "image over 67108864 bytes"
     );
-    let without_entry = [large(alloc, "main::mine", 65_518)?];
+    let without_entry = [large(alloc, "main::mine", 65_516)?];
     assert_eq!(rt; refusal_of(alloc, &without_entry)?.as_str(), "no entry");
     Ok(())
 }

@@ -1,4 +1,4 @@
-use super::{CALLS, PRINTS_7, alone, fault_of, valid_of};
+use super::{CALLS, PRINTS_7, alone, alone_in, fault_of, valid_of};
 use object_format::{BadFile, What};
 use std::test::Fail;
 
@@ -40,15 +40,15 @@ const FAULTS: [(u8, &[u8], u64, What); 14] = [
 #[test]
 fn faults_of_code(rt: HostRuntime) -> Result<(), Fail> {
     for (slots, code, at, what) in &FAULTS {
-        let bytes = alone(rt.alloc(), *slots, code)?;
-        let fault = fault_of(rt.alloc(), &bytes);
-        assert_eq!(rt;
-            fault,
-            Some(BadFile {
-                at: *at,
-                what: *what
-            })
-        );
+        // the length of code has two bytes more in version 2
+        for (version, more) in [(1u8, 0u64), (2, 2)] {
+            let bytes = alone_in(rt.alloc(), version, *slots, code)?;
+            let fault = BadFile {
+                at: at.saturating_add(more),
+                what: *what,
+            };
+            assert_eq!(rt; fault_of(rt.alloc(), &bytes), Some(fault));
+        }
     }
     Ok(())
 }

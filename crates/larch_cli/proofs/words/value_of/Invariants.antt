@@ -1,5 +1,5 @@
 use Rattle.std.proofs.Common.{◌≡◌, ◌-◌, ◌^◌, min, take}
-use Rattle.lar_syntax.specs.Thin as thin
+use Rattle.lar_lexer.specs.Thin as thin
 use Rattle.larch_cli.proofs.words.value_of.Given as goal
 
 abbrev pub invariant-loop-digit : goal.invariant-loop-digit

@@ -1,12 +1,12 @@
-use Rattle.std.proofs.Common.{◌≡◌, ◌+◌, ◌-◌, ◌≤◌, length, drop}
+use Rattle.std.proofs.Common.{◌≡◌, ◌+◌, ◌<◌, ◌^◌, length}
 use Rattle.object_format.specs.Reading.{code_fault}
 use Rattle.object_format.proofs.code.fault_of.Given as goal
 
-abbrev pub invariant-loop-offset : goal.invariant-loop-offset
-invariant-loop-offset l = record {
-  within : l.offset ≤ length l.code;
-  same : code_fault l.count (l.at + l.offset) 0 (drop l.offset l.code) ≡ code_fault l.count l.at 0 l.code;
+abbrev pub invariant-loop-left : goal.invariant-loop-left
+invariant-loop-left l = record {
+  within : l.place + length l.left < 2 ^ 64;
+  same : code_fault l.callees l.place l.left ≡ code_fault l.callees l.at l.code;
 }
 
-abbrev pub decreases-loop-offset : goal.decreases-loop-offset
-decreases-loop-offset l = length l.code - l.offset
+abbrev pub decreases-loop-left : goal.decreases-loop-left
+decreases-loop-left l = length l.left

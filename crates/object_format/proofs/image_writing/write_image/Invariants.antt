@@ -1,7 +1,8 @@
 use Rattle.std.proofs.Common.{◌≡◌, ◌++◌, take}
 use Rattle.std.specs.List.{flat_map}
 use Rattle.object_format.specs.Image.{function_spelling}
+use Rattle.object_format.specs.declared.version.Version.TheVariants.{Two}
 use Rattle.object_format.proofs.image_writing.write_image.Given as goal
 
 abbrev pub invariant-loop-function : goal.invariant-loop-function
-invariant-loop-function l = l.out ≡ l.initial.out ++ flat_map function_spelling (take l.function-index l.functions)
+invariant-loop-function l = l.out ≡ l.initial.out ++ flat_map (function_spelling Two) (take l.function-index l.functions)

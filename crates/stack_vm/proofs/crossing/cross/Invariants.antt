@@ -6,5 +6,5 @@ use Rattle.stack_vm.proofs.crossing.cross.Given as goal
 abbrev pub invariant-loop-placed : goal.invariant-loop-placed
 invariant-loop-placed l = record {
   long : length l.crossed ≡ length l.found;
-  seen : (pairs : List (ℕ × ℕ)) → Shows pairs l.found (255 * 65536) → (t : ℕ) → t < length l.found → slice_index_or l.crossed t false ≡ is_crossed l.functions pairs t (take l.placed-index l.listed);
+  seen : (pairs : List (ℕ × ℕ)) → Shows pairs l.found (255 * 16777216) → (t : ℕ) → t < length l.found → slice_index_or l.crossed t false ≡ is_crossed l.functions pairs t (take l.placed-index l.listed);
 }

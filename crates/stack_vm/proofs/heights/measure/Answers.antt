@@ -3,8 +3,8 @@ use Rattle.std.specs.Prelude.{max}
 use Rattle.std.proofs.lemmas.List.{take_more}
 use Rattle.std.proofs.lemmas.Option.{slice_get-get_or}
 use Rattle.stack_vm.specs.Heights.{reached, at_start, here, next, Before, heights, left_by}
-use Rattle.stack_vm.specs.declared.instruction.Instruction.TheVariants.{Push8}
-use Rattle.stack_vm.specs.declared.instruction.Placed.{Placed}
+use Rattle.stack_vm.specs.declared.operation.Operation.TheVariants.{Push8}
+use Rattle.stack_vm.specs.declared.operation.Placed.{Placed}
 use Rattle.stack_vm.proofs.Measuring.{reached_more, heights_more, greatest_more, here_is, here_low, shown_higher}
 use Rattle.stack_vm.proofs.heights.measure.Goals as goal
 
@@ -13,7 +13,7 @@ loop-placed-preserved c =
     let fs = c.args.functions.now in
     let place = c.loop-placed.placed-index in
     let all = c.args.listed.now in
-    let nothing : Placed = record { offset = 0; instruction = Push8 (pos 0) } in
+    let nothing : Placed = record { offset = 0; operation = Push8 (pos 0) } in
     let p : Placed = get_or all place nothing in
     let b : Before = reached fs at_start (take place all) in
     let low : 255 * place + 255 < 4294967295 = omega (arith, c.requires.few, c.loop-placed-test.true) in
@@ -24,7 +24,7 @@ loop-placed-preserved c =
     let front : take (place + 1) all ≡ take place all ++ p ∷ [] = take_more all place nothing lt in
     let more : reached fs at_start (take (place + 1) all) ≡ next fs b p = ap (λ (ps : List Placed). reached fs at_start ps) front ∙ reached_more fs at_start (take place all) p in
     let higher : heights fs at_start (take (place + 1) all) ≡ heights fs at_start (take place all) ++ (p.offset, c.here-height.result) ∷ [] = ap (λ (ps : List Placed). heights fs at_start ps) front ∙ heights_more fs at_start (take place all) p ∙ ap (λ (n : ℕ). heights fs at_start (take place all) ++ (p.offset, n) ∷ []) (sym h) in
-    let left : c.leaves-left.result ≡ left_by fs p.instruction (here b p.offset) = c.leaves-left.ensures.left ∙ ap (λ (n : ℕ). left_by fs p.instruction n) h in
+    let left : c.leaves-left.result ≡ left_by fs p.operation (here b p.offset) = c.leaves-left.ensures.left ∙ ap (λ (n : ℕ). left_by fs p.operation n) h in
     let below : c.leaves-left.result ≤ 255 * (place + 1) = omega (arith, c.leaves-left.ensures.small) in
     record {
       numbers = omega arith;

@@ -9,7 +9,7 @@ use Rattle.stack_vm.specs.Acts.{Goes, step, runs, line_of}
 use Rattle.stack_vm.specs.Running.{acts}
 use Rattle.stack_vm.specs.declared.end.End.TheVariants as end
 use Rattle.stack_vm.specs.declared.end.Kind.TheVariants as kinds
-use Rattle.stack_vm.specs.declared.instruction.Instruction.{Instruction}
+use Rattle.stack_vm.specs.declared.operation.Operation.{Operation}
 use Rattle.stack_vm.specs.declared.machine.State.{State}
 use Rattle.stack_vm.specs.declared.machine.Frame.{Frame}
 use Rattle.stack_vm.specs.declared.machine.Next.TheVariants as next
@@ -57,7 +57,7 @@ returns-in_default-clause-leaves g c f0 is0 =
     let fine = r.stands.sound.each s.place (height f s) r.stands.here in
     let long = stack_long fs f s c.loop.words r.stands in
     let k = c.in-Call.callee in
-    let did : Did V s fine.0 (next.Call k) (take s.top c.step.new.words) = subst (λ (o : Option Instruction). DidAt V s o (next.Call k) (take s.top c.step.new.words)) fine.1.at c.in-Call.ensures.did in
+    let did : Did V s fine.0 (next.Call k) (take s.top c.step.new.words) = subst (λ (o : Option Operation). DidAt V s o (next.Call k) (take s.top c.step.new.words)) fine.1.at c.in-Call.ensures.did in
     let safe = c.in-Call.ensures.safe in
     let g0 : LinkedFn = get_or fs k f in
     let is_g : slice_get fs k ≡ Some g0 = slice_get-get_or fs k f safe.there in
@@ -80,7 +80,7 @@ returns-in_default-leave-clause-leaves g c f0 is0 =
     let one_less : left ≡ suc rest = omega arith in
     let fine = r.stands.sound.each s.place (height f s) r.stands.here in
     let long = stack_long fs f s c.loop.words r.stands in
-    let did : Did V s fine.0 next.Return (take s.top c.step.new.words) = subst (λ (o : Option Instruction). DidAt V s o next.Return (take s.top c.step.new.words)) fine.1.at c.in-Return.ensures.did in
+    let did : Did V s fine.0 next.Return (take s.top c.step.new.words) = subst (λ (o : Option Operation). DidAt V s o next.Return (take s.top c.step.new.words)) fine.1.at c.in-Return.ensures.did in
     let none : frames ≡ [] = c.in_default-leave.ensures.did in
     let ran = run_ended fs f s frames V left rest one_less (returns_last fs f s frames V fine.0 r.is fine.1.at did.0 none) in
     ends_here _ _ _ _ _ _ _ _ _ _ _ _ _ _ _ (c.loop.invariant.going f0 is0) ran
@@ -105,7 +105,7 @@ returns-in-Trapped-clause-leaves g c f0 is0 =
     let V : List ℤ = take s.top c.loop.words in
     let r = c.loop.invariant.runs in
     let fine = r.stands.sound.each s.place (height f s) r.stands.here in
-    let did : Did V s fine.0 (next.Trapped c.in-Trapped.kind) (take s.top c.step.new.words) = subst (λ (o : Option Instruction). DidAt V s o (next.Trapped c.in-Trapped.kind) (take s.top c.step.new.words)) fine.1.at c.in-Trapped.ensures.did in
+    let did : Did V s fine.0 (next.Trapped c.in-Trapped.kind) (take s.top c.step.new.words) = subst (λ (o : Option Operation). DidAt V s o (next.Trapped c.in-Trapped.kind) (take s.top c.step.new.words)) fine.1.at c.in-Trapped.ensures.did in
     let long = stack_long fs f s c.loop.words r.stands in
     let stepped = traps fs f s V fine.0 _ c.in-Trapped.kind r.is fine.1.at fine.1.fine long r.stands.above did in
     let ran = run_trapped fs f s c.loop.frames.items V (c.args.steps - c.loop.counter) (c.args.steps - (c.loop.counter + 1)) c.in-Trapped.kind (omega arith) stepped in
@@ -132,7 +132,7 @@ loop-preserved g c =
       | in-Went w ↦
           let t = w.in-Went.next in
           let now : List ℤ = take t.top c.step.new.words in
-          let did : Did V s fine.0 (next.Went t) now = subst (λ (o : Option Instruction). DidAt V s o (next.Went t) now) fine.1.at w.in-Went.ensures.did in
+          let did : Did V s fine.0 (next.Went t) now = subst (λ (o : Option Operation). DidAt V s o (next.Went t) now) fine.1.at w.in-Went.ensures.did in
           let safe = w.in-Went.ensures.safe in
           let on = steps_on fs f s t frames V now fine.0 r.is fine.1.at fine.1.fine long r.stands.above did in
           rw (w.words-is, w.frames-is, w.text-is, w.sink-is, w.function-is, w.code-is, w.state-is) (record {
@@ -150,7 +150,7 @@ loop-preserved g c =
           let is_h : slice_get fs t.number ≡ Some h = found fs t.number h w.in-Some.ensures.runs.there w.index-functions-state-in-Call.is in
           let more = w.call.new.frames.items in
           let now : List ℤ = take t.top w.call.new.words in
-          let did : Did V s fine.0 (next.Call k) (take s.top c.step.new.words) = subst (λ (o : Option Instruction). DidAt V s o (next.Call k) (take s.top c.step.new.words)) fine.1.at w.in-Call.ensures.did in
+          let did : Did V s fine.0 (next.Call k) (take s.top c.step.new.words) = subst (λ (o : Option Operation). DidAt V s o (next.Call k) (take s.top c.step.new.words)) fine.1.at w.in-Call.ensures.did in
           let safe = w.in-Call.ensures.safe in
           let g0 : LinkedFn = get_or fs k h in
           let is_g : slice_get fs k ≡ Some g0 = slice_get-get_or fs k h safe.there in
@@ -175,7 +175,7 @@ loop-preserved g c =
           let is_h : slice_get fs t.number ≡ Some h = found fs t.number h w.in-Some-leave.ensures.runs.there w.index-functions-state-in-Return.is in
           let more = w.leave.new.frames.items in
           let now : List ℤ = take t.top w.leave.new.words in
-          let did : Did V s fine.0 next.Return (take s.top c.step.new.words) = subst (λ (o : Option Instruction). DidAt V s o next.Return (take s.top c.step.new.words)) fine.1.at w.in-Return.ensures.did in
+          let did : Did V s fine.0 next.Return (take s.top c.step.new.words) = subst (λ (o : Option Operation). DidAt V s o next.Return (take s.top c.step.new.words)) fine.1.at w.in-Return.ensures.did in
           let gave : LeaveGives f s V w.leave.new.words frames more (Some t) = subst (λ (X : List ℤ). LeaveGives f s X w.leave.new.words frames more (Some t)) did.1 w.in-Some-leave.ensures.did in
           let b : Frame = gave.0 in
           let there : slice_get fs b.number ≡ Some h = ap (λ (u : State). slice_get fs u.number) (sym gave.2) ∙ is_h in
@@ -192,7 +192,7 @@ loop-preserved g c =
       | in-Print+in-Done w ↦
           let t = w.in-Print.next in
           let now : List ℤ = take t.top c.step.new.words in
-          let did : Did V s fine.0 (next.Print t w.in-Print.value) now = subst (λ (o : Option Instruction). DidAt V s o (next.Print t w.in-Print.value) now) fine.1.at w.in-Print.ensures.did in
+          let did : Did V s fine.0 (next.Print t w.in-Print.value) now = subst (λ (o : Option Operation). DidAt V s o (next.Print t w.in-Print.value) now) fine.1.at w.in-Print.ensures.did in
           let safe = w.in-Print.ensures.safe in
           let on = prints_on fs f s t frames V now fine.0 w.in-Print.value r.is fine.1.at fine.1.fine long r.stands.above did in
           let kept = w.in-Done.ensures.keeps in

@@ -1,5 +1,5 @@
 use Rattle.std.proofs.Common.{ℕ, ◌+◌, ◌<◌, ◌≤◌, List, length, Option, sym, ap, subst, arith, refl}
-use Rattle.stack_vm.specs.Instruction.{IsThere}
+use Rattle.stack_vm.specs.Operation.{IsThere}
 use Rattle.stack_vm.specs.Sweep.{Swept}
 use Rattle.stack_vm.proofs.Listing.{whole_front}
 use Rattle.stack_vm.proofs.Swept.{swept_more, swept_all, ends_within}

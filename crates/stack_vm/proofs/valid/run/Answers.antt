@@ -8,7 +8,7 @@ use Rattle.stack_vm.proofs.Starting.{sound_image, leaves_defined}
 use Rattle.stack_vm.proofs.valid.run.Goals as goal
 
 pub run_from-requires-clause-sound : goal.run_from-requires-clause-sound
-run_from-requires-clause-sound g c = subst AllSound (sym c.functions.ensures.list) (sound_image c.valid.inside.image c.functions.ensures.linked c.valid.invariant.0.valid)
+run_from-requires-clause-sound g c = subst AllSound (sym c.functions.ensures.list) (sound_image c.valid.invariant.0.version c.valid.inside.image c.functions.ensures.linked c.valid.invariant.0.valid)
 
 pub returns-clause-leaves : goal.returns-clause-leaves
 unfolding runs_of

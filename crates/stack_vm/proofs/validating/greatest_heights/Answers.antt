@@ -13,4 +13,4 @@ check-requires-clause-whole c =
     let f = c.function-item.result in
     let is : slice_get c.functions-functions.result.now c.loop-function.function-index ≡ Some f = element_at c.functions-functions.result.now c.loop-function.function-index f c.loop-function-test.true c.function-item.is in
     let there : slice_get fs c.loop-function.function-index ≡ Some f = ap (λ (xs : List LinkedFn). slice_get xs c.loop-function.function-index) (sym c.functions-functions.ensures.list) ∙ is in
-    (count, code_fault-linked count 0 f.code (all_get (λ (g : LinkedFn). IsLinkedCode count g.code) fs c.loop-function.function-index f c.functions-functions.ensures.linked.calls there))
+    (Some count, code_fault-linked count 0 f.code (all_get (λ (g : LinkedFn). IsLinkedCode count g.code) fs c.loop-function.function-index f c.functions-functions.ensures.linked.calls there))

@@ -5,7 +5,7 @@ use Rattle.stack_vm.proofs.validating.greatest_heights.Given as goal
 
 abbrev pub invariant-loop-function : goal.invariant-loop-function
 invariant-loop-function l = record {
-  fits : l.at ≤ 14 + 70000 * l.function-index;
+  fits : l.at ≤ 14 + 17000000 * l.function-index;
   all : l.all.items ≡ map (greatest_of l.functions) (take l.function-index l.functions);
-  fault : functions_fault l.functions l.at (drop l.function-index l.functions) ≡ functions_fault l.functions 14 l.functions;
+  fault : functions_fault l.functions l.version l.at (drop l.function-index l.functions) ≡ functions_fault l.functions l.version 14 l.functions;
 }

@@ -4,11 +4,11 @@ use Rattle.symbol_link.specs.Callees.{place_by, reach}
 use Rattle.symbol_link.specs.Relocation.{relocated}
 use Rattle.symbol_link.proofs.relocating.Callees.relocated.Given as goal
 
-abbrev pub invariant-loop-left : goal.invariant-loop-left
-invariant-loop-left l = record {
+abbrev pub invariant-loop-opcode : goal.invariant-loop-opcode
+invariant-loop-opcode l = record {
   linked : IsLinkedCode (reach l.self) l.left;
   copied : l.out ++ relocated (place_by l.self) l.left ≡ relocated (place_by l.self) l.code;
 }
 
-abbrev pub decreases-loop-left : goal.decreases-loop-left
-decreases-loop-left l = length l.left
+abbrev pub decreases-loop-opcode : goal.decreases-loop-opcode
+decreases-loop-opcode l = length l.left
