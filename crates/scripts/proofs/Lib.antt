@@ -1,0 +1,3 @@
+pub mod Calm
+pub mod Following
+pub mod Laws

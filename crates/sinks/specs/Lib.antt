@@ -1,0 +1,9 @@
+pub use Rattle.outside.specs.CallsState
+pub use Rattle.outside.specs.Counts
+pub use Rattle.journal.specs.Counted
+pub use Rattle.journal.specs.Journal
+pub mod MemorySinkState
+pub mod Prefixes
+pub mod Puts
+pub mod Putting
+pub mod SinkState

@@ -1,0 +1,6 @@
+mod Apps
+mod Rows
+mod Sorted
+mod Turns
+mod Walks
+mod Whole

@@ -1,0 +1,90 @@
+-- The table of commands: what each takes of its line.
+use Rattle.std.specs.Prelude.{ℕ, ◌≡◌, ◌++◌, ◌&&◌, nat_le, if◌then◌else◌, Bool, true, false, List, [], ◌∷◌, length, Option, Some, None, option_map, option_and_then, is_some, unwrap_or, codes}
+use Rattle.std.specs.List.{list_all}
+use Rattle.std.specs.Str.{bytes_eq}
+use Rattle.words.specs.Lines.{Choice, Given, Line, Text, line_of, look}
+use Rattle.words.specs.Numbers.{is_name, number_in}
+use Rattle.words.specs.declared.commands.Command.{Command}
+use Rattle.words.specs.declared.commands.Command.TheVariants.{Build, Run, Dump, Link}
+
+-- an option with a value, and a flag
+abbrev pub valued : Text → Choice
+valued name = record { name = name; takes_value = true }
+
+abbrev pub flag : Text → Choice
+flag name = record { name = name; takes_value = false }
+
+-- the value of an option, or its default
+abbrev pub value_or : Text → Text → List Given → Text
+value_or default name given = unwrap_or (option_and_then (λ g. g.value) (look name given)) default
+
+abbrev pub source_name : Text
+source_name = codes "main.larch"
+
+abbrev pub image_name : Text
+image_name = codes "a.lrpx"
+
+-- the one file word of a line, where it names a file
+abbrev pub one_name : List Text → Option Text
+one_name [] = None
+one_name (file ∷ []) = if is_name file then Some file else None
+one_name (file ∷ another ∷ more) = None
+
+abbrev pub is_source : List Text → Bool
+is_source [] = false
+is_source (file ∷ []) = bytes_eq file source_name
+is_source (file ∷ another ∷ more) = false
+
+-- the file words of a line, where they are 1 to 256 and each names a file
+abbrev pub names_of : List Text → Option (List Text)
+names_of files = if nat_le 1 (length files) && nat_le (length files) 256 && list_all is_name files then Some files else None
+
+-- what adding these to the names comes to, by whether each names a file
+abbrev pub AddsNames : List Text → List Text → List Text → Bool → Type 0
+AddsNames old new files true = (list_all is_name files ≡ true) × (new ≡ old ++ files)
+AddsNames old new files false = list_all is_name files ≡ false
+
+-- build main.larch, with --jobs N: N is 4 where it is not given, and only 1 is served
+abbrev pub build_taken : Line → Option Command
+build_taken line = if is_source line.files then option_map (λ jobs. Build) (number_in 1 1 (value_or (codes "4") (codes "jobs") line.given)) else None
+
+abbrev pub build_of : List Text → Option Command
+build_of words = option_and_then build_taken (line_of (valued (codes "jobs") ∷ []) words)
+
+-- run NAME, with --steps N: 1 to 1000000000000, and 100000000 where it is not given
+abbrev pub run_taken : Line → Option Command
+run_taken line = option_and_then (λ name. option_map (Run name) (number_in 1 1000000000000 (value_or (codes "100000000") (codes "steps") line.given))) (one_name line.files)
+
+abbrev pub run_of : List Text → Option Command
+run_of words = option_and_then run_taken (line_of (valued (codes "steps") ∷ []) words)
+
+-- dump NAME
+abbrev pub dump_taken : Line → Option Command
+dump_taken line = option_map Dump (one_name line.files)
+
+abbrev pub dump_of : List Text → Option Command
+dump_of words = option_and_then dump_taken (line_of [] words)
+
+-- link NAME.., with --out NAME: a.lrpx where it is not given
+abbrev pub link_to : List Text → Text → Option Command
+link_to names output = if is_name output then Some (Link names output) else None
+
+abbrev pub link_taken : Line → Option Command
+link_taken line = option_and_then (λ names. link_to names (value_or image_name (codes "out") line.given)) (names_of line.files)
+
+abbrev pub link_of : List Text → Option Command
+link_of words = option_and_then link_taken (line_of (valued (codes "out") ∷ []) words)
+
+-- the command with this name, from the words after it
+abbrev pub command_named : Text → List Text → Option Command
+command_named command words =
+    if bytes_eq command (codes "build") then build_of words
+    else (if bytes_eq command (codes "run") then run_of words
+    else (if bytes_eq command (codes "dump") then dump_of words
+    else (if bytes_eq command (codes "link") then link_of words
+    else None)))
+
+-- the command that the words name
+abbrev pub command_of : List Text → Option Command
+command_of [] = None
+command_of (command ∷ words) = command_named command words
