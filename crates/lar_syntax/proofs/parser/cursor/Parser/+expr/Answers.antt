@@ -244,7 +244,7 @@ named-returns-then-sees-2-clause-reads t c =
 pub named-returns-clause-reads : goal.named-returns-clause-reads
 named-returns-clause-reads t c =
     let i = c.segments.invariant in (
-      i.takes ∙ ap (λ e. flat_expr e ++ c.segments.self.rest.now) (sym c.path.ensures),
+      i.takes ∙ ap (λ e. flat_expr e ++ c.segments.self.rest.now) (sym c.path-2.ensures),
       λ ss. i.passes ss ∙ path_ends c.segments.self (post ∷ ss) (sym c.sees.ensures ∙ c.segments-test.false) (sym c.sees-2.ensures ∙ c.if-sees-2.false),
     )
 
