@@ -1,0 +1,9 @@
+mod EntryFacts
+mod IndexFacts
+mod Looks
+mod MeantFacts
+mod Numbers
+mod ReadFacts
+mod Sameness
+mod ScopeFacts
+mod WalkFacts

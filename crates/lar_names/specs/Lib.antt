@@ -1,0 +1,13 @@
+pub mod Declarations
+pub mod EarlierNames
+pub mod Entries
+pub mod Indexed
+pub mod Items
+pub mod Kinds
+pub mod Meanings
+pub mod NamesView
+pub mod Numbered
+pub mod ScopeLists
+pub mod Scopes
+pub mod Sources
+pub mod Tables

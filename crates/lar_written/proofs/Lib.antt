@@ -1,0 +1,11 @@
+pub mod Arms
+pub mod Collected
+pub mod Fits
+pub mod Loops
+pub mod MemberLists
+pub mod NameLists
+pub mod Numbers
+pub mod Paths
+pub mod Sorting
+pub mod Standings
+pub mod Views

@@ -1,0 +1,7 @@
+use Rattle.lar_rules.specs.Generics.{generic_name}
+use Rattle.lar_written.specs.Sites.{generic_view, type_name}
+use Rattle.lar_written.proofs.Collected.{collected_end}
+use Rattle.lar_written.proofs.generics.listed_generics.Goals as goal
+
+pub returns : goal.returns
+returns c = collected_end generic_view generic_name c.args.generics.now.first c.as_slice-more-items.result.now c.args.generics.now.more c.loop-more.more-index c.loop-more.list.items c.loop-more.invariant c.as_slice-more-items.ensures c.loop-more-test.false
