@@ -1,0 +1,9 @@
+pub mod ExprsIn
+pub mod ItemsIn
+pub mod Merged
+pub mod PlacesIn
+pub mod Reordered
+pub mod StmtsIn
+pub mod Swapped
+pub mod TokensApart
+pub mod TypesIn

@@ -1,0 +1,6 @@
+pub mod Frames
+pub mod InOrder
+pub mod Items
+pub mod Known
+pub mod KnownNames
+pub mod Sources
