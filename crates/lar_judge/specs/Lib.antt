@@ -1,0 +1,11 @@
+pub mod Calls
+pub mod Envs
+pub mod Gathered
+pub mod Here
+pub mod Known
+pub mod Lists
+pub mod Locals
+pub mod Rule
+pub mod Selected
+pub mod Setting
+pub mod Wanted
