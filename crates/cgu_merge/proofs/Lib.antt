@@ -1,0 +1,4 @@
+pub mod NameOrder
+pub mod Names
+pub mod Placing
+pub mod Written

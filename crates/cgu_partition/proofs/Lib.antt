@@ -1,0 +1,5 @@
+pub mod Marked
+pub mod Named
+pub mod Owned
+pub mod Partitioned
+pub mod Planned
