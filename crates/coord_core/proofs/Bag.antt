@@ -3,6 +3,7 @@ use Rattle.std.proofs.Common.{◌≡◌, ℕ, ◌+◌, true, List, [], ◌∷◌
 use Rattle.counting.specs.Count.{times}
 use Rattle.counting.proofs.Count.{times-append}
 use Rattle.coord_core.specs.declared.event.Event.{Event}
+use Rattle.coord_core.specs.declared.terms.Terms.{Terms}
 use Rattle.coord_core.specs.State.{State, times_some, paid_at, byte_at}
 use Rattle.coord_core.specs.Effect.{effect}
 use Rattle.coord_core.specs.Decide.{may_ask}
@@ -23,16 +24,16 @@ run_from-bytes x s (e ∷ es) l none =
     let b = times-append x (gave_by e) (gave es) in
     let c = times-append x (lost_by e) (lost es) in omega arith
 
-pub bag : (n lanes : ℕ) (es : List Event) → Lawful n lanes es → (x : ℕ) → times x (took es) ≡ byte_at x (run n lanes es) + times x (gave es) + times x (lost es)
-bag n lanes es l x =
-    let d = (acted true (first n lanes)).byte x in
-    let r = run_from-bytes x (opened n lanes) es l (decided-spare true (first n lanes)) in omega arith
+pub bag : (terms : Terms) (es : List Event) → Lawful terms es → (x : ℕ) → times x (took es) ≡ byte_at x (run terms es) + times x (gave es) + times x (lost es)
+bag terms es l x =
+    let d = (acted true (first terms)).byte x in
+    let r = run_from-bytes x (opened terms) es l (decided-spare true (first terms)) in omega arith
 
-pub returned : (n lanes : ℕ) (es : List Event) → Lawful n lanes es → is_finished (run n lanes es) ≡ true → (x : ℕ) → times x (took es) ≡ times x (gave es) + times x (lost es)
-returned n lanes es l end x =
-    let s = run n lanes es in
+pub returned : (terms : Terms) (es : List Event) → Lawful terms es → is_finished (run terms es) ≡ true → (x : ℕ) → times x (took es) ≡ times x (gave es) + times x (lost es)
+returned terms es l end x =
+    let s = run terms es in
     let done = finished_is s end in
-    let b = bag n lanes es l x in
+    let b = bag terms es l x in
     let p : paid_at x s.running ≡ 0 = ap (paid_at x) done.running in
     let g : times x s.giving ≡ 0 = ap (times x) done.giving in
-    let o : times_some x s.spare ≡ 0 = ap (times_some x) (run-spare n lanes es) in omega arith
+    let o : times_some x s.spare ≡ 0 = ap (times_some x) (run-spare terms es) in omega arith

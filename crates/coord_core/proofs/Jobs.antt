@@ -7,7 +7,7 @@ use Rattle.counting.proofs.Count.{one_if-same}
 use Rattle.coord_core.specs.declared.job.Job.{Job}
 use Rattle.coord_core.specs.declared.queue.Queued.{Queued}
 use Rattle.coord_core.specs.State.{one_some, times_some, owns, payers, paid_at, running_at, queued_at, own_of, runs, is_gen, has_byte, payer_of, jobs_without, paid_by, precedes, placed, is_empty, bytes_without}
-use Rattle.coord_core.specs.Effect.{kept_to}
+use Rattle.coord_core.specs.Effect.{kept_to, kept_if}
 
 pub none_is : (o : Option ℕ) → is_none o ≡ true → o ≡ None
 none_is (Some x) h = absurd (cc)
@@ -126,6 +126,10 @@ kept_to-fewer x m (y ∷ ys) = by (leb y.unit m) (kept_to-fewer x m ys)
     by true r = omega arith
     by false r = omega arith
 
+pub kept_if-fewer : (k : Bool) (x m : ℕ) (q : List Queued) → queued_at x (kept_if k m q) ≤ queued_at x q
+kept_if-fewer true x m q = omega arith
+kept_if-fewer false x m q = kept_to-fewer x m q
+
 pub length-kept_to : (m : ℕ) (q : List Queued) → length (kept_to m q) ≤ length q
 length-kept_to m [] = omega arith
 length-kept_to m (y ∷ ys) = by (leb y.unit m) (length-kept_to m ys)
@@ -133,6 +137,10 @@ length-kept_to m (y ∷ ys) = by (leb y.unit m) (length-kept_to m ys)
     by : (t : Bool) → length (kept_to m ys) ≤ length ys → length (cond t (y ∷ kept_to m ys) (kept_to m ys)) ≤ length (y ∷ ys)
     by true r = omega arith
     by false r = omega arith
+
+pub length-kept_if : (k : Bool) (m : ℕ) (q : List Queued) → length (kept_if k m q) ≤ length q
+length-kept_if true m q = omega arith
+length-kept_if false m q = length-kept_to m q
 
 pub times-bytes_without : (x b : ℕ) (l : List ℕ) → has_byte b l ≡ true → times x (bytes_without b l) + one_if (eqb x b) ≡ times x l
 times-bytes_without x b [] h = absurd (cc)

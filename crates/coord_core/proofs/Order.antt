@@ -5,6 +5,7 @@ use Rattle.counting.proofs.Count.{times-append}
 use Rattle.coord_core.specs.declared.event.Event.{Event}
 use Rattle.coord_core.specs.declared.event.Main.{Main}
 use Rattle.coord_core.specs.declared.event.Main.TheVariants.{Idle, Generate, Lend}
+use Rattle.coord_core.specs.declared.terms.Terms.{Terms}
 use Rattle.coord_core.specs.State.{State}
 use Rattle.coord_core.specs.Effect.{effect}
 use Rattle.coord_core.specs.Decide.{may_ask, decided, actions_of}
@@ -40,9 +41,9 @@ run_from-begun s (e ∷ es) =
     ∙ ap (λ (l : List ℕ). l ++ begun (answers_from (step s e) es)) (decided-begun (may_ask e) (effect e s))
     ∙ run_from-begun (step s e) es
 
-begun-run : (n lanes : ℕ) (es : List Event) → begun (answers n lanes es) ≡ up_to (run n lanes es).next
-begun-run n lanes es =
-    ap (λ (l : List ℕ). l ++ begun (answers_from (opened n lanes) es)) (decided-begun true (first n lanes)) ∙ run_from-begun (opened n lanes) es
+begun-run : (terms : Terms) (es : List Event) → begun (answers terms es) ≡ up_to (run terms es).next
+begun-run terms es =
+    ap (λ (l : List ℕ). l ++ begun (answers_from (opened terms) es)) (decided-begun true (first terms)) ∙ run_from-begun (opened terms) es
 
 -- so often x was started, is queued or is being generated
 record Started (s : State) (before : ℕ → ℕ) : Type 0 where
@@ -85,16 +86,16 @@ run_from-started s (e ∷ es) before l h =
     let r = run_from-started (step s e) es (λ x. before x + times x a) l.1 (step-started s e before l.0 h) in
     same_started (run_from (step s e) es) (λ x. before x + times x a + times x rest) _ (λ x. let t = times-append x a rest in omega arith) r
 
-first-started : (n lanes : ℕ) → Started (first n lanes) (λ x. 0)
-first-started n lanes = record { once = λ x. omega arith; low = λ x at. absurd (omega arith) }
+first-started : (terms : Terms) → Started (first terms) (λ x. 0)
+first-started terms = record { once = λ x. omega arith; low = λ x at. absurd (omega arith) }
 
-pub in_order : (n lanes : ℕ) (es : List Event) → Lawful n lanes es → InOrder n lanes es
-in_order n lanes es l =
-    let a = jobs_by (actions_of true (first n lanes)) in
-    let o = decided-started true (first n lanes) (λ x. 0) (first-started n lanes) in
-    let r = run_from-started (opened n lanes) es (λ x. 0 + times x a) l o in
+pub in_order : (terms : Terms) (es : List Event) → Lawful terms es → InOrder terms es
+in_order terms es l =
+    let a = jobs_by (actions_of true (first terms)) in
+    let o = decided-started true (first terms) (λ x. 0) (first-started terms) in
+    let r = run_from-started (opened terms) es (λ x. 0 + times x a) l o in
     record {
-      begun = begun-run n lanes es;
-      most = (run-held n lanes es l).next;
-      once = λ x. let t = times-append x a (jobs (answers_from (opened n lanes) es)) in let z = r.once x in omega arith;
+      begun = begun-run terms es;
+      most = (run-held terms es l).next;
+      once = λ x. let t = times-append x a (jobs (answers_from (opened terms) es)) in let z = r.once x in omega arith;
     }

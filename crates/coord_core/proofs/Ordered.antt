@@ -5,12 +5,13 @@ use Rattle.std.proofs.lemmas.Bool.Decides.{nat_tests}
 use Rattle.coord_core.specs.declared.event.Event.{Event}
 use Rattle.coord_core.specs.declared.event.Event.TheVariants.{Took, Empty, TakeFault, Generated, GenFailed, Made, MakeFailed, Wanted, Gave, GiveFault}
 use Rattle.coord_core.specs.declared.queue.Queued.{Queued}
+use Rattle.coord_core.specs.declared.terms.Terms.{Terms}
 use Rattle.coord_core.specs.State.{State, one_some, own_of, is_gen, precedes, placed}
-use Rattle.coord_core.specs.Effect.{kept_to, wanted, effect}
-use Rattle.coord_core.specs.Decide.{full_enough, wants, is_free, is_short, passed, pass, started, start, gives, lends, main_by, main, settled, asked, asks_now, may_ask, decided}
+use Rattle.coord_core.specs.Effect.{kept_to, kept_if, wanted, effect}
+use Rattle.coord_core.specs.Decide.{full_enough, more_to_do, is_free, is_to_generate, passed, pass, started, start, gives, lends, main_by, main, settled, asked, asks_now, may_ask, decided}
 use Rattle.coord_core.specs.Run.{first, opened, step, run_from, run, is_awaited, LawfulFrom, Lawful}
 use Rattle.coord_core.specs.Laws.{NoneBefore, IsOrdered}
-use Rattle.coord_core.proofs.Jobs.{gen_is, length-placed, length-kept_to}
+use Rattle.coord_core.proofs.Jobs.{gen_is, length-placed, length-kept_to, length-kept_if}
 use Rattle.coord_core.proofs.Acted.{decided-spare}
 use Rattle.coord_core.proofs.Sound.{Sound, bounded_by, settled-sound, effect-sound, decided-sound, first-sound}
 
@@ -56,6 +57,10 @@ ordered-kept_to m (y ∷ ys) h = by (leb y.unit m) (ordered-kept_to m ys h.1)
     by true r = (none-kept_to y m ys h.0, r)
     by false r = r
 
+ordered-kept_if : (k : Bool) (m : ℕ) (q : List Queued) → IsOrdered q → IsOrdered (kept_if k m q)
+ordered-kept_if true m q h = h
+ordered-kept_if false m q h = ordered-kept_to m q h
+
 -- an event keeps the order, and lets no more wait than did
 abbrev Short : State → Type 0
 Short s = length s.queue + one_some s.gen ≤ 16
@@ -69,9 +74,9 @@ effect-ordered (Generated i c) s h = by (ltb i s.bar)
     by : (t : Bool) → IsOrdered (cond t (placed (record { cost = c; unit = i }) s.queue) s.queue)
     by true = ordered-placed (record { cost = c; unit = i }) s.queue h
     by false = h
-effect-ordered (GenFailed i) s h = ordered-kept_to (min s.bar i) s.queue h
+effect-ordered (GenFailed i) s h = ordered-kept_if s.terms.keep (min s.bar i) s.queue h
 effect-ordered (Made i) s h = h
-effect-ordered (MakeFailed i) s h = ordered-kept_to (min s.bar i) s.queue h
+effect-ordered (MakeFailed i) s h = ordered-kept_if s.terms.keep (min s.bar i) s.queue h
 effect-ordered (Wanted i) s h = by (is_gen i s.gen)
   where
     by : (t : Bool) → IsOrdered (wanted t i s).queue
@@ -89,9 +94,9 @@ effect-short (Generated i c) s out h = by (ltb i s.bar) (ap one_some (gen_is i s
     by : (t : Bool) → one_some s.gen ≡ 1 → length (cond t (placed (record { cost = c; unit = i }) s.queue) s.queue) + 0 ≤ 16
     by true g = let l = length-placed (record { cost = c; unit = i }) s.queue in omega arith
     by false g = omega arith
-effect-short (GenFailed i) s out h = let l = length-kept_to (min s.bar i) s.queue in omega arith
+effect-short (GenFailed i) s out h = let l = length-kept_if s.terms.keep (min s.bar i) s.queue in omega arith
 effect-short (Made i) s out h = h
-effect-short (MakeFailed i) s out h = let l = length-kept_to (min s.bar i) s.queue in omega arith
+effect-short (MakeFailed i) s out h = let l = length-kept_if s.terms.keep (min s.bar i) s.queue in omega arith
 effect-short (Wanted i) s out h = by (is_gen i s.gen)
   where
     by : (t : Bool) → Short (wanted t i s)
@@ -132,7 +137,7 @@ asked-keeps s false = (λ h. h, omega arith)
 
 settled-keeps : (s : State) → Keeps s (settled s)
 settled-keeps s =
-    let p = passed-keeps s s.spare (own_of s.running) (wants s) in
+    let p = passed-keeps s s.spare (own_of s.running) (more_to_do s) in
     let q = started-keeps (pass s) (pass s).spare (pass s).queue refl in
     let g = gives-keeps (start (pass s)) (start (pass s)).spare in
     let a = p.1 in let b = q.1 in let c = g.1 in
@@ -147,13 +152,13 @@ main-ordered s false g h = h
 main-ordered s true true h = h
 main-ordered s true false h = (lends-keeps s s.queue refl).0 h
 
-main-short : (s : State) (f g : Bool) → is_free s ≡ f → is_short s ≡ g → length s.running ≤ 64 → Short s → Short (main_by s f g)
+main-short : (s : State) (f g : Bool) → is_free s ≡ f → is_to_generate s ≡ g → length s.running ≤ 64 → Short s → Short (main_by s f g)
 main-short s false g ef eg most h = h
 main-short s true true ef eg most h = let b : length s.queue ≤ 15 = few (length s.queue) (length s.running) most (not-true _ ((and_parts _ _ eg).1)) in omega arith
 main-short s true false ef eg most h = let k = (lends-keeps s s.queue refl).1 in omega arith
 
 decided-ordered : (may : Bool) (s : State) → IsOrdered s.queue → IsOrdered (decided may s).queue
-decided-ordered may s h = let s3 = settled s in let s4 = main s3 in (asked-keeps s4 (may && asks_now s4)).0 (main-ordered s3 (is_free s3) (is_short s3) ((settled-keeps s).0 h))
+decided-ordered may s h = let s3 = settled s in let s4 = main s3 in (asked-keeps s4 (may && asks_now s4)).0 (main-ordered s3 (is_free s3) (is_to_generate s3) ((settled-keeps s).0 h))
 
 decided-short : (l : ℕ) (may : Bool) (s : State) → l ≤ 64 → Sound l s → Short s → Short (decided may s)
 decided-short l may s most sound h =
@@ -161,15 +166,15 @@ decided-short l may s most sound h =
     let b = bounded_by l s3 (settled-sound l s sound) in
     let b0 = b.out in let b1 = b.held in
     let k = (settled-keeps s).1 in
-    let m = main-short s3 (is_free s3) (is_short s3) refl refl (omega arith) (omega arith) in
+    let m = main-short s3 (is_free s3) (is_to_generate s3) refl refl (omega arith) (omega arith) in
     let a = (asked-keeps s4 (may && asks_now s4)).1 in omega arith
 
 run_from-ordered : (s : State) (es : List Event) → IsOrdered s.queue → IsOrdered (run_from s es).queue
 run_from-ordered s [] h = h
 run_from-ordered s (e ∷ es) h = run_from-ordered (step s e) es (decided-ordered (may_ask e) (effect e s) (effect-ordered e s h))
 
-pub ordered : (n lanes : ℕ) (es : List Event) → IsOrdered (run n lanes es).queue
-ordered n lanes es = run_from-ordered (opened n lanes) es (decided-ordered true (first n lanes) tt)
+pub ordered : (terms : Terms) (es : List Event) → IsOrdered (run terms es).queue
+ordered terms es = run_from-ordered (opened terms) es (decided-ordered true (first terms) tt)
 
 run_from-short : (l : ℕ) (s : State) (es : List Event) → l ≤ 64 → LawfulFrom s es → s.spare ≡ None → Sound l s → Short s → Short (run_from s es)
 run_from-short l s [] most lawful none sound h = h
@@ -177,7 +182,7 @@ run_from-short l s (e ∷ es) most lawful none sound h =
     let mid = effect-sound l e s lawful.0 none sound in
     run_from-short l (step s e) es most lawful.1 (decided-spare (may_ask e) (effect e s)) (decided-sound l (may_ask e) (effect e s) mid) (decided-short l (may_ask e) (effect e s) most mid (effect-short e s lawful.0 h))
 
-pub short : (n lanes : ℕ) (es : List Event) → 0 < lanes → lanes ≤ 64 → Lawful n lanes es → length (run n lanes es).queue ≤ 16
-short n lanes es some most l =
-    let f = first-sound n lanes some in
-    let r = run_from-short lanes (opened n lanes) es most l (decided-spare true (first n lanes)) (decided-sound lanes true (first n lanes) f) (decided-short lanes true (first n lanes) most f (omega arith)) in omega arith
+pub short : (terms : Terms) (es : List Event) → 0 < terms.lanes → terms.lanes ≤ 64 → Lawful terms es → length (run terms es).queue ≤ 16
+short terms es some most l =
+    let f = first-sound terms some in
+    let r = run_from-short terms.lanes (opened terms) es most l (decided-spare true (first terms)) (decided-sound terms.lanes true (first terms) f) (decided-short terms.lanes true (first terms) most f (omega arith)) in omega arith

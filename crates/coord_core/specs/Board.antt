@@ -1,4 +1,4 @@
--- How the code's fields show the state.
+-- How the code's fields show the state. No promise, but for the code and its proof alone.
 use Rattle.std.specs.Prelude.{◌*◌, ◌≤◌, vec_capacity}
 use Rattle.coord_core.specs.declared.board.Board.{Board}
 use Rattle.coord_core.specs.State.{State}
@@ -6,8 +6,7 @@ use Rattle.coord_core.specs.State.{State}
 -- the state that the fields hold
 abbrev pub state_of : Board → State
 state_of b = record {
-  units = b.units;
-  lanes = b.lanes;
+  terms = b.terms;
   next = b.next;
   gen = b.generating;
   queue = b.queue.items;
@@ -21,6 +20,6 @@ state_of b = record {
 
 -- the lists have memory for all that they can hold
 pub record HasRoom (b : Board) : Type 0 where
-  pub queue : b.units ≤ vec_capacity b.queue
+  pub queue : b.terms.units ≤ vec_capacity b.queue
   pub running : 64 ≤ vec_capacity b.running
-  pub giving : 3 * b.units ≤ vec_capacity b.giving
+  pub giving : 3 * b.terms.units ≤ vec_capacity b.giving

@@ -8,13 +8,13 @@ use Rattle.coord_core.specs.declared.event.Actions.{Actions}
 use Rattle.coord_core.specs.declared.queue.Queued.{Queued}
 use Rattle.coord_core.specs.State.{State, payers, own_of, paid_by, is_empty}
 
--- units are left to generate, and none failed
+-- units are left to generate, and no failure lowered the bar
 abbrev pub may_generate : State → Bool
-may_generate s = nat_lt s.next s.units && s.bar == s.units
+may_generate s = nat_lt s.next s.terms.units && s.bar == s.terms.units
 
 -- there is work for one more job: a queued unit, or one to generate
-abbrev pub wants : State → Bool
-wants s = not (is_empty s.queue) || may_generate s
+abbrev pub more_to_do : State → Bool
+more_to_do s = not (is_empty s.queue) || may_generate s
 
 -- q queued units are enough for w running jobs, so that none need be generated now: one at least, and a quarter of the jobs
 abbrev pub full_enough : ℕ → ℕ → Bool
@@ -32,7 +32,7 @@ passed s (Some b) None w = s
 passed s None o w = s
 
 abbrev pub pass : State → State
-pass s = passed s s.spare (own_of s.running) (wants s)
+pass s = passed s s.spare (own_of s.running) (more_to_do s)
 
 abbrev pub pass_by : Option ℕ → Option ℕ → Bool → Option (ℕ × ℕ)
 pass_by (Some b) (Some i) true = Some (b, i)
@@ -73,11 +73,11 @@ main_by s true true = record s { gen = Some s.next; next = s.next + 1 }
 main_by s true false = lends s s.queue
 
 -- whether a unit is to be generated before a queued one runs
-abbrev pub is_short : State → Bool
-is_short s = may_generate s && not (full_enough (length s.queue) (length s.running))
+abbrev pub is_to_generate : State → Bool
+is_to_generate s = may_generate s && not (full_enough (length s.queue) (length s.running))
 
 abbrev pub main : State → State
-main s = main_by s (is_free s) (is_short s)
+main s = main_by s (is_free s) (is_to_generate s)
 
 abbrev pub lend_by : List Queued → Main
 lend_by (e ∷ es) = Lend e.unit
@@ -102,12 +102,12 @@ may_ask (Gave b) = false
 may_ask (GiveFault b) = false
 
 -- a token would have work: a queued unit, or one to generate if it freed the slot
-abbrev pub has_work : State → Bool
-has_work s = not (is_empty s.queue) || (not (is_none (own_of s.running)) && may_generate s)
+abbrev pub token_has_work : State → Bool
+token_has_work s = not (is_empty s.queue) || (not (is_none (own_of s.running)) && may_generate s)
 
 -- a lane is free that a token could pay for, and there is work for it
 abbrev pub asks_now : State → Bool
-asks_now s = s.asks && not s.asking && nat_lt (payers s.running + 1) s.lanes && has_work s
+asks_now s = s.asks && not s.asking && nat_lt (payers s.running + 1) s.terms.lanes && token_has_work s
 
 abbrev pub asked : State → Bool → State
 asked s true = record s { asking = true }
@@ -125,9 +125,9 @@ decided may s = ask may (main (settled s))
 
 abbrev pub actions_of : Bool → State → Actions
 actions_of may s = record {
-  pass = pass_by s.spare (own_of s.running) (wants s);
+  pass = pass_by s.spare (own_of s.running) (more_to_do s);
   start = start_by (pass s).spare (pass s).queue;
   give = (start (pass s)).spare;
-  main = main_act (settled s) (is_free (settled s)) (is_short (settled s));
+  main = main_act (settled s) (is_free (settled s)) (is_to_generate (settled s));
   ask = may && asks_now (main (settled s));
 }

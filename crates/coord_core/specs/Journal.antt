@@ -1,5 +1,5 @@
 -- What a list of events and a list of answers tell.
-use Rattle.std.specs.Prelude.{ℕ, min, zero, suc, List, [], ◌∷◌, ◌++◌, Option, Some, None}
+use Rattle.std.specs.Prelude.{ℕ, min, zero, suc, Bool, true, false, List, [], ◌∷◌, ◌++◌, Option, Some, None}
 use Rattle.coord_core.specs.declared.event.Event.{Event}
 use Rattle.coord_core.specs.declared.event.Event.TheVariants.{Took, Empty, TakeFault, Generated, GenFailed, Made, MakeFailed, Wanted, Gave, GiveFault}
 use Rattle.coord_core.specs.declared.event.Main.{Main}
@@ -37,6 +37,27 @@ failed_by (GenFailed i) = i ∷ []
 failed_by (MakeFailed i) = i ∷ []
 failed_by (Wanted i) = i ∷ []
 failed_by _ = []
+
+-- the unit that found no memory
+abbrev pub wanted_by : Event → List ℕ
+wanted_by (Wanted i) = i ∷ []
+wanted_by _ = []
+
+-- the unit whose failure lowers the bar: any that failed, and of a run that keeps going only one that found no memory
+abbrev pub lowered_by : Bool → Event → List ℕ
+lowered_by true e = wanted_by e
+lowered_by false e = failed_by e
+
+-- the unit that was refused, when it was generated or when it was made
+abbrev pub refused_by : Event → List ℕ
+refused_by (GenFailed i) = i ∷ []
+refused_by (MakeFailed i) = i ∷ []
+refused_by _ = []
+
+-- the unit that needs no more: one that was made, and of a run that keeps going also one that was refused
+abbrev pub covered_by : Bool → Event → List ℕ
+covered_by true e = made_by e ++ refused_by e
+covered_by false e = made_by e
 
 -- 1 for an event of a unit: what came of its generation or its job
 abbrev pub of_unit : Event → ℕ
@@ -94,6 +115,15 @@ made events = gather made_by events
 abbrev pub failed : List Event → List ℕ
 failed events = gather failed_by events
 
+abbrev pub wanted : List Event → List ℕ
+wanted events = gather wanted_by events
+
+abbrev pub lowered : Bool → List Event → List ℕ
+lowered keep events = gather (lowered_by keep) events
+
+abbrev pub covered : Bool → List Event → List ℕ
+covered keep events = gather (covered_by keep) events
+
 -- the units whose generation was begun, in order
 abbrev pub begun : List Actions → List ℕ
 begun actions = gather (λ a. begun_by a.main) actions
@@ -110,6 +140,11 @@ up_to (suc n) = up_to n ++ n ∷ []
 abbrev pub lesser : ℕ → Option ℕ → ℕ
 lesser x None = x
 lesser x (Some y) = min x y
+
+-- the least of o and these
+abbrev pub lesser_by : List ℕ → Option ℕ → Option ℕ
+lesser_by [] o = o
+lesser_by (x ∷ xs) o = Some (lesser x (lesser_by xs o))
 
 -- the least of these
 abbrev pub least : List ℕ → Option ℕ

@@ -7,10 +7,11 @@ use Rattle.coord_core.specs.declared.event.Main.{Main}
 use Rattle.coord_core.specs.declared.event.Main.TheVariants.{Idle, Generate, Lend}
 use Rattle.coord_core.specs.declared.event.Actions.{Actions}
 use Rattle.coord_core.specs.declared.queue.Queued.{Queued}
+use Rattle.coord_core.specs.declared.terms.Terms.{Terms}
 use Rattle.coord_core.specs.State.{State, one_some, owns, payers, queued_at, running_at, in_hand, bytes_in, byte_at, is_gen, precedes}
 use Rattle.coord_core.specs.Decide.{may_generate}
 use Rattle.coord_core.specs.Run.{run, step, answers, Lawful}
-use Rattle.coord_core.specs.Journal.{took_by, gave_by, lost_by, begun_by, jobs_by, made, failed, begun, jobs, up_to, least, of_unit, of_ask, of_give}
+use Rattle.coord_core.specs.Journal.{took_by, gave_by, lost_by, begun_by, jobs_by, failed, lowered, covered, begun, jobs, up_to, least, of_unit, of_ask, of_give}
 
 -- at most one job or generation is on the implicit slot; the jobs and the generation are at most one more than the bytes that pay; the bytes that pay or are spare and an ask that is out leave a lane for the slot
 pub record Bounded (lanes : ℕ) (s : State) : Type 0 where
@@ -18,7 +19,7 @@ pub record Bounded (lanes : ℕ) (s : State) : Type 0 where
   pub out : length s.running + one_some s.gen ≤ payers s.running + 1
   pub held : payers s.running + one_some s.spare + one_if s.asking + 1 ≤ lanes
 
--- nothing is out and nothing is left to do, and each unit below the bar was made
+-- nothing is out and nothing is left to do, and each unit below the bar was made, or where the run keeps going made or refused
 pub record Complete (s : State) (events : List Event) : Type 0 where
   pub running : s.running ≡ []
   pub gen : s.gen ≡ None
@@ -26,12 +27,12 @@ pub record Complete (s : State) (events : List Event) : Type 0 where
   pub giving : s.giving ≡ []
   pub queue : s.queue ≡ []
   pub rest : may_generate s ≡ false
-  pub made : (i : ℕ) → i < s.bar → 1 ≤ times i (made events)
+  pub covered : (i : ℕ) → i < s.bar → 1 ≤ times i (covered s.terms.keep events)
 
--- the bar is the least unit that failed, and above all units where none did
-pub record Barred (n : ℕ) (s : State) (events : List Event) : Type 0 where
-  pub bar : s.bar ≡ unwrap_or (least (failed events)) n
-  pub units : (i : ℕ) → 1 ≤ times i (failed events) → i < n
+-- the bar is the least unit whose failure lowers it, and above all units where there is none; each unit that failed is one of the run
+pub record Barred (terms : Terms) (s : State) (events : List Event) : Type 0 where
+  pub bar : s.bar ≡ unwrap_or (least (lowered terms.keep events)) terms.units
+  pub units : (i : ℕ) → 1 ≤ times i (failed events) → i < terms.units
 
 -- m is the least of the numbers
 pub record IsLeast (numbers : List ℕ) (m : ℕ) : Type 0 where
@@ -39,10 +40,10 @@ pub record IsLeast (numbers : List ℕ) (m : ℕ) : Type 0 where
   pub below : (x : ℕ) → 1 ≤ times x numbers → m ≤ x
 
 -- units are generated in order, each once, and no unit is started twice
-pub record InOrder (n lanes : ℕ) (events : List Event) : Type 0 where
-  pub begun : begun (answers n lanes events) ≡ up_to (run n lanes events).next
-  pub most : (run n lanes events).next ≤ n
-  pub once : (x : ℕ) → times x (jobs (answers n lanes events)) ≤ 1
+pub record InOrder (terms : Terms) (events : List Event) : Type 0 where
+  pub begun : begun (answers terms events) ≡ up_to (run terms events).next
+  pub most : (run terms events).next ≤ terms.units
+  pub once : (x : ℕ) → times x (jobs (answers terms events)) ≤ 1
 
 -- no unit is twice in hand, and each was generated or is being so
 pub record InHand (n : ℕ) (s : State) : Type 0 where
@@ -51,9 +52,9 @@ pub record InHand (n : ℕ) (s : State) : Type 0 where
   pub most : s.next ≤ n
 
 -- a lawful run goes on by the event
-pub record GoesOn (n lanes : ℕ) (events : List Event) (e : Event) : Type 0 where
-  pub lawful : Lawful n lanes (events ++ e ∷ [])
-  pub run : run n lanes (events ++ e ∷ []) ≡ step (run n lanes events) e
+pub record GoesOn (terms : Terms) (events : List Event) (e : Event) : Type 0 where
+  pub lawful : Lawful terms (events ++ e ∷ [])
+  pub run : run terms (events ++ e ∷ []) ≡ step (run terms events) e
 
 -- how many events there are of units, of asks and of gives
 pub record Few (n : ℕ) (events : List Event) : Type 0 where
@@ -80,14 +81,13 @@ pub record Acted (s t : State) (a : Actions) : Type 0 where
   pub queue_count : length t.queue + length (jobs_by a) ≡ length s.queue
   pub giving : t.giving ≡ s.giving ++ option_to_list a.give
   pub gen : t.gen ≡ gen_or a.main s.gen
-  pub begun : (i : ℕ) → a.main ≡ Generate i → (i ≡ s.next) × (s.gen ≡ None) × (i < s.units) × (s.bar ≡ s.units)
+  pub begun : (i : ℕ) → a.main ≡ Generate i → (i ≡ s.next) × (s.gen ≡ None) × (i < s.terms.units) × (s.bar ≡ s.terms.units)
   pub next : t.next ≡ s.next + length (begun_by a.main)
   pub asking : t.asking ≡ (s.asking || a.ask)
   pub bytes : bytes_in t ≡ bytes_in s
   pub byte : (x : ℕ) → byte_at x t ≡ byte_at x s
   pub spare : t.spare ≡ None
-  pub units : t.units ≡ s.units
-  pub lanes : t.lanes ≡ s.lanes
+  pub terms : t.terms ≡ s.terms
   pub bar : t.bar ≡ s.bar
 
 -- the job that an event ends
@@ -126,8 +126,7 @@ pub record Told (e : Event) (s t : State) : Type 0 where
   pub bytes : bytes_in t + length (gave_by e) + length (lost_by e) ≡ bytes_in s + length (took_by e)
   pub byte : (x : ℕ) → byte_at x t + times x (gave_by e) + times x (lost_by e) ≡ byte_at x s + times x (took_by e)
   pub next : t.next ≡ s.next
-  pub units : t.units ≡ s.units
-  pub lanes : t.lanes ≡ s.lanes
+  pub terms : t.terms ≡ s.terms
 
 -- none of these starts before e
 abbrev pub NoneBefore : Queued → List Queued → Type 0

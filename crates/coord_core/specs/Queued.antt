@@ -1,4 +1,4 @@
--- What the queue's ends are.
+-- What the queue's ends are. No promise, but for the code and its proof alone.
 use Rattle.std.specs.Prelude.{ℕ, List, [], ◌∷◌, Option, Some, None}
 use Rattle.coord_core.specs.declared.queue.Queued.{Queued}
 

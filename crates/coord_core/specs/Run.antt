@@ -1,19 +1,20 @@
 -- A run: what is awaited, which lists of events are lawful, and what the list leaves and answers.
-use Rattle.std.specs.Prelude.{◌≡◌, ℕ, ◌==◌, Bool, true, false, not, ◌&&◌, ◌||◌, List, [], ◌∷◌, length, None, is_none}
+use Rattle.std.specs.Prelude.{◌≡◌, ◌==◌, Bool, true, false, not, ◌&&◌, ◌||◌, List, [], ◌∷◌, length, None, is_none}
 use Rattle.coord_core.specs.declared.event.Event.{Event}
 use Rattle.coord_core.specs.declared.event.Event.TheVariants.{Took, Empty, TakeFault, Generated, GenFailed, Made, MakeFailed, Wanted, Gave, GiveFault}
 use Rattle.coord_core.specs.declared.event.Actions.{Actions}
+use Rattle.coord_core.specs.declared.terms.Terms.{Terms}
 use Rattle.coord_core.specs.State.{State, is_gen, runs, has_byte}
 use Rattle.coord_core.specs.Effect.{effect}
 use Rattle.coord_core.specs.Decide.{decided, may_ask, actions_of}
 
 -- nothing was generated, and nothing is decided
-abbrev pub first : ℕ → ℕ → State
-first n lanes = record { units = n; lanes = lanes; next = 0; gen = None; queue = []; running = []; bar = n; asks = true; asking = false; giving = []; spare = None }
+abbrev pub first : Terms → State
+first terms = record { terms = terms; next = 0; gen = None; queue = []; running = []; bar = terms.units; asks = true; asking = false; giving = []; spare = None }
 
 -- the state in which the first event is awaited
-abbrev pub opened : ℕ → ℕ → State
-opened n lanes = decided true (first n lanes)
+abbrev pub opened : Terms → State
+opened terms = decided true (first terms)
 
 abbrev pub step : State → Event → State
 step s e = decided (may_ask e) (effect e s)
@@ -22,8 +23,8 @@ abbrev pub run_from : State → List Event → State
 run_from s [] = s
 run_from s (e ∷ es) = run_from (step s e) es
 
-abbrev pub run : ℕ → ℕ → List Event → State
-run n lanes events = run_from (opened n lanes) events
+abbrev pub run : Terms → List Event → State
+run terms events = run_from (opened terms) events
 
 -- the actions after each event
 abbrev pub answers_from : State → List Event → List Actions
@@ -31,8 +32,8 @@ answers_from s [] = []
 answers_from s (e ∷ es) = actions_of (may_ask e) (effect e s) ∷ answers_from (step s e) es
 
 -- the actions at the start and after each event
-abbrev pub answers : ℕ → ℕ → List Event → List Actions
-answers n lanes events = actions_of true (first n lanes) ∷ answers_from (opened n lanes) events
+abbrev pub answers : Terms → List Event → List Actions
+answers terms events = actions_of true (first terms) ∷ answers_from (opened terms) events
 
 -- the event answers an action that is out
 abbrev pub is_awaited : State → Event → Bool
@@ -52,8 +53,8 @@ abbrev pub LawfulFrom : State → List Event → Type 0
 LawfulFrom s [] = Unit {0}
 LawfulFrom s (e ∷ es) = (is_awaited s e ≡ true) × LawfulFrom (step s e) es
 
-abbrev pub Lawful : ℕ → ℕ → List Event → Type 0
-Lawful n lanes events = LawfulFrom (opened n lanes) events
+abbrev pub Lawful : Terms → List Event → Type 0
+Lawful terms events = LawfulFrom (opened terms) events
 
 -- no job, generation, ask or give is out
 abbrev pub is_finished : State → Bool

@@ -4,16 +4,16 @@ use Rattle.std.specs.List.{list_any}
 use Rattle.counting.specs.Count.{one_if, times, total}
 use Rattle.coord_core.specs.declared.job.Job.{Job}
 use Rattle.coord_core.specs.declared.queue.Queued.{Queued}
+use Rattle.coord_core.specs.declared.terms.Terms.{Terms}
 
--- units: how many there are to make, and lanes: how many jobs may be out at once
+-- terms: how many units there are, how many jobs may be out at once, and whether the run keeps going after a refusal
 -- next: the unit to generate next, and gen: the one that is being generated
 -- queue: the units to make, the next to start first, and running: the jobs that are out
--- bar: the least unit that failed, or units where none did
+-- bar: all units below it are made; the number of units, until a failure lowers it
 -- asks: whether tokens may still be asked for, and asking: whether an ask is out
 -- giving: the bytes that are being given back, and spare: a byte that pays nothing yet
 pub record State : Type 0 where
-  pub units : ℕ
-  pub lanes : ℕ
+  pub terms : Terms
   pub next : ℕ
   pub gen : Option ℕ
   pub queue : List Queued

@@ -2,7 +2,7 @@
 ghost use Rattle.std.specs.Prelude.{◌≡◌, ◌+◌, ◌*◌, ◌<◌, ◌≤◌, ◌&&◌, length, nat_lt, true, false, Some, None, IfOk, if◌then◌else◌};
 ghost use Rattle.coord_core.specs.State.{one_some, is_gen, bytes_in, own_of};
 ghost use Rattle.coord_core.specs.Effect.{cut, ended, gen_ended, wanted, generated, effect};
-ghost use Rattle.coord_core.specs.Decide.{may_generate, wants, full_enough, is_free, is_short, pass, pass_by, start, start_by, give, main, main_act, lends, lend_by, has_work, asks_now, ask, decided, actions_of};
+ghost use Rattle.coord_core.specs.Decide.{may_generate, more_to_do, full_enough, is_free, is_to_generate, pass, pass_by, start, start_by, give, main, main_act, lends, lend_by, token_has_work, asks_now, ask, decided, actions_of};
 ghost use Rattle.coord_core.specs.Run.{first, is_awaited, is_finished};
 ghost use Rattle.coord_core.specs.Laws.{Bounded, Fits};
 
@@ -10,15 +10,14 @@ use crate::event::{Actions, Event, Main};
 use crate::giving;
 use crate::job::{self, Job};
 use crate::queue::{self, Queued};
+use crate::terms::Terms;
 use std::alloc::{AllocError, Global};
 
 /// What the coordinator knows.
 #[derive(Drop)]
 pub struct Board {
-    /// How many units there are.
-    pub units: u32,
-    /// How many jobs may be out at once.
-    pub lanes: u8,
+    /// What the run was told at its start.
+    pub terms: Terms,
     /// The unit to generate next.
     pub next: u32,
     /// The unit that is being generated.
@@ -27,7 +26,7 @@ pub struct Board {
     pub queue: Vec<Queued>,
     /// The jobs that are out.
     pub running: Vec<Job>,
-    /// The least unit that failed, or `units`.
+    /// All units below it are made. It is the number of units, until a failure lowers it.
     pub bar: u32,
     /// Whether tokens may still be asked for.
     pub asks: bool,
@@ -43,21 +42,20 @@ impl Board {
     ghost use Rattle.coord_core.specs.Board.{state_of, HasRoom};
 
     /// The state before anything is decided, with memory for all that it will hold.
-    pub fn new(alloc: Global, units: u32, lanes: u8) -> Result<Board, AllocError>
-        requires { units ≤ 65536 }
-        ensures { IfOk result (λ b. (state_of b ≡ first units lanes) × HasRoom b) }
+    pub fn new(alloc: Global, terms: Terms) -> Result<Board, AllocError>
+        requires { terms.units ≤ 65536 }
+        ensures { IfOk result (λ b. (state_of b ≡ first terms) × HasRoom b) }
     {
-        let queue = Vec::with_capacity(alloc, units as usize)?;
+        let queue = Vec::with_capacity(alloc, terms.units as usize)?;
         let running = Vec::with_capacity(alloc, 64)?;
-        let giving = Vec::with_capacity(alloc, 3 * units as usize)?;
+        let giving = Vec::with_capacity(alloc, 3 * terms.units as usize)?;
         Ok(Board {
-            units,
-            lanes,
+            terms,
             next: 0,
             generating: None,
             queue,
             running,
-            bar: units,
+            bar: terms.units,
             asks: true,
             asking: false,
             giving,
@@ -65,18 +63,14 @@ impl Board {
         })
     }
 
-    /// The bar, where a unit failed.
-    pub fn first_failure(&self) -> Option<u32>
-        ensures { result ≡ (if nat_lt self.now.bar self.now.units then Some self.now.bar else None) }
-    {
-        (self.bar < self.units).then_some(self.bar)
-    }
-
-    // A failure of the unit: what waits above it is dropped.
-    fn cut(&mut self, unit: u32)
-        ensures state { state_of self.new ≡ cut unit (state_of self.old) }
+    // A failure of the unit: what waits above it is dropped, unless the run keeps going.
+    fn cut(&mut self, keep: bool, unit: u32)
+        ensures state { state_of self.new ≡ cut keep unit (state_of self.old) }
         ensures room { HasRoom self.old → HasRoom self.new }
     {
+        if keep {
+            return;
+        }
         self.bar = self.bar.min(unit);
         queue::keep_to(&mut self.queue, self.bar);
     }
@@ -92,7 +86,7 @@ impl Board {
     // The unit was generated at this cost.
     fn generated(&mut self, unit: u32, cost: u32)
         requires room { HasRoom self.old }
-        requires fits { length self.old.queue.items < self.old.units }
+        requires fits { length self.old.queue.items < self.old.terms.units }
         ensures state { state_of self.new ≡ generated unit cost (state_of self.old) }
         ensures room { HasRoom self.new }
     {
@@ -102,7 +96,7 @@ impl Board {
         }
     }
 
-    // The unit found no memory.
+    // The unit found no memory. No run keeps going after that.
     fn wanted(&mut self, unit: u32)
         ensures state { state_of self.new ≡ wanted (is_gen unit self.old.generating) unit (state_of self.old) }
         ensures room { HasRoom self.old → HasRoom self.new }
@@ -112,7 +106,7 @@ impl Board {
         } else {
             self.end(unit);
         }
-        self.cut(unit);
+        self.cut(false, unit);
     }
 
     // Whether the unit is the one that is generated.
@@ -129,12 +123,12 @@ impl Board {
     fn may_generate(&self) -> bool
         ensures { result ≡ may_generate (state_of self.now) }
     {
-        self.next < self.units && self.bar == self.units
+        self.next < self.terms.units && self.bar == self.terms.units
     }
 
     // Whether there is work for one more job.
-    fn wants(&self) -> bool
-        ensures { result ≡ wants (state_of self.now) }
+    fn more_to_do(&self) -> bool
+        ensures { result ≡ more_to_do (state_of self.now) }
     {
         !self.queue.is_empty() || self.may_generate()
     }
@@ -142,10 +136,10 @@ impl Board {
     // A spare token pays the job on the implicit slot, where that frees the slot for more work.
     fn pass(&mut self) -> Option<(u8, u32)>
         ensures state { state_of self.new ≡ pass (state_of self.old) }
-        ensures action { result ≡ pass_by self.old.spare (own_of self.old.running.items) (wants (state_of self.old)) }
+        ensures action { result ≡ pass_by self.old.spare (own_of self.old.running.items) (more_to_do (state_of self.old)) }
         ensures room { HasRoom self.old → HasRoom self.new }
     {
-        if !self.wants() {
+        if !self.more_to_do() {
             return None;
         }
         match (self.spare, job::own_job(&self.running)) {
@@ -179,7 +173,7 @@ impl Board {
     // A token that is still spare is given back.
     fn give(&mut self) -> Option<u8>
         requires room { HasRoom self.old }
-        requires fits { length self.old.giving.items + one_some self.old.spare ≤ 3 * self.old.units }
+        requires fits { length self.old.giving.items + one_some self.old.spare ≤ 3 * self.old.terms.units }
         ensures state { state_of self.new ≡ give (state_of self.old) }
         ensures action { result ≡ self.old.spare }
         ensures room { HasRoom self.new }
@@ -198,9 +192,9 @@ impl Board {
     }
 
     // Whether a unit is to be generated before a queued one runs.
-    fn is_short(&self) -> bool
+    fn is_to_generate(&self) -> bool
         requires { length self.now.running.items ≤ 64 }
-        ensures { result ≡ is_short (state_of self.now) }
+        ensures { result ≡ is_to_generate (state_of self.now) }
     {
         self.may_generate() && !queue::is_full_enough(self.queue.len(), self.running.len())
     }
@@ -211,13 +205,13 @@ impl Board {
         requires most { length self.old.running.items ≤ 64 }
         requires fits { is_free (state_of self.old) ≡ true → length self.old.running.items < 64 }
         ensures state { state_of self.new ≡ main (state_of self.old) }
-        ensures action { result ≡ main_act (state_of self.old) (is_free (state_of self.old)) (is_short (state_of self.old)) }
+        ensures action { result ≡ main_act (state_of self.old) (is_free (state_of self.old)) (is_to_generate (state_of self.old)) }
         ensures room { HasRoom self.new }
     {
         if !self.is_free() {
             return Main::Idle;
         }
-        if self.is_short() {
+        if self.is_to_generate() {
             let unit = self.next;
             self.generating = Some(unit);
             self.next = unit + 1;
@@ -244,8 +238,8 @@ impl Board {
     }
 
     // Whether a token would have work: a unit that waits, or one to generate if the slot were free.
-    fn has_work(&self) -> bool
-        ensures { result ≡ has_work (state_of self.now) }
+    fn token_has_work(&self) -> bool
+        ensures { result ≡ token_has_work (state_of self.now) }
     {
         !self.queue.is_empty() || (job::own_job(&self.running).is_some() && self.may_generate())
     }
@@ -255,7 +249,8 @@ impl Board {
         ensures { result ≡ asks_now (state_of self.now) }
     {
         let may = self.asks && !self.asking;
-        may && job::count_paid(&self.running) + 1 < self.lanes as usize && self.has_work()
+        may && job::count_paid(&self.running) + 1 < self.terms.lanes as usize
+            && self.token_has_work()
     }
 
     // A token is asked for, if one may be.
@@ -299,7 +294,7 @@ impl Board {
     /// What the event itself changes.
     pub fn take_in(&mut self, event: Event)
         requires room { HasRoom self.old }
-        requires fits { Fits self.old.units (state_of self.old) }
+        requires fits { Fits self.old.terms.units (state_of self.old) }
         requires awaited { is_awaited (state_of self.old) event ≡ true }
         ensures state { state_of self.new ≡ effect event (state_of self.old) }
         ensures room { HasRoom self.new }
@@ -317,12 +312,12 @@ impl Board {
             Event::Generated(unit, cost) => self.generated(unit, cost),
             Event::GenFailed(unit) => {
                 self.generating = None;
-                self.cut(unit);
+                self.cut(self.terms.keep, unit);
             }
             Event::Made(unit) => self.end(unit),
             Event::MakeFailed(unit) => {
                 self.end(unit);
-                self.cut(unit);
+                self.cut(self.terms.keep, unit);
             }
             Event::Wanted(unit) => self.wanted(unit),
             Event::Gave(byte) | Event::GiveFault(byte) => {
@@ -334,9 +329,9 @@ impl Board {
     /// What is decided after an event, in this order.
     pub fn decide(&mut self, may_ask: bool) -> Actions
         requires room { HasRoom self.old }
-        requires fits { Fits self.old.units (state_of self.old) }
-        requires bound { Bounded self.old.lanes (state_of self.old) }
-        requires lanes { self.old.lanes ≤ 64 }
+        requires fits { Fits self.old.terms.units (state_of self.old) }
+        requires bound { Bounded self.old.terms.lanes (state_of self.old) }
+        requires lanes { self.old.terms.lanes ≤ 64 }
         ensures state { state_of self.new ≡ decided may_ask (state_of self.old) }
         ensures actions { result ≡ actions_of may_ask (state_of self.old) }
         ensures room { HasRoom self.new }

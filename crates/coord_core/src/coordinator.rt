@@ -10,7 +10,9 @@
 //!
 //! The least unit that failed is the bar. From the first failure on nothing is generated, and what waits
 //! above the bar is dropped; what is below it is still made, so that the failure that is named at the
-//! end does not hang on the order of the answers. docs/coordinator.md has the whole story, with a run.
+//! end does not hang on the order of the answers. A run that *keeps going* does so after a refusal: all
+//! units are generated and made, and each refusal is told. Only want of memory lowers its bar.
+//! docs/coordinator.md has the whole story, with a run.
 //!
 //! `board` holds the state and a function for each decision, `queue`, `job` and `giving` its lists.
 ghost use Rattle.std.specs.Prelude.{◌≡◌, ◌<◌, ◌≤◌, [], true, IfOk};
@@ -21,6 +23,7 @@ ghost use Rattle.coord_core.specs.Journal.{failed, least};
 
 use crate::board::Board;
 use crate::event::{Actions, Event};
+use crate::terms::Terms;
 use std::alloc::{AllocError, Global};
 use std::marker::Model;
 
@@ -28,6 +31,8 @@ use std::marker::Model;
 #[derive(Drop)]
 pub struct Core {
     board: Board,
+    /// The least unit that failed.
+    failure: Option<u32>,
     journal: Vec<Event>,
 }
 
@@ -38,26 +43,36 @@ impl Model for Core {
 
     ghost Value = { CoreState };
 
-    ghost view = { λ c. core_state c.board.units c.board.lanes c.journal.items };
+    ghost view = { λ c. core_state c.board.terms c.journal.items };
 
-    ghost invariant = { λ c. IsCore (state_of c.board) c.journal.items (vec_capacity c.journal) × HasRoom c.board };
+    ghost invariant = { λ c. IsCore (state_of c.board) c.failure c.journal.items (vec_capacity c.journal) × HasRoom c.board };
 }
 
 impl Core {
-    ghost use Rattle.coord_core.specs.Core.{core_state, state_in, after_event};
+    ghost use Rattle.coord_core.specs.Core.{core_state, terms_of, state_in, after_event};
 
-    /// A run of so many units with so many lanes, and what is to be done first. All the memory of the
-    /// run is taken here.
-    pub fn new(alloc: Global, n: u32, lanes: u8) -> Result<(Core, Actions), AllocError>
+    /// A run of so many units with so many lanes, and what is to be done first. Where it is to `keep`
+    /// going, it does so after a refusal. All the memory of the run is taken here.
+    pub fn new(alloc: Global, n: u32, lanes: u8, keep: bool) -> Result<(Core, Actions), AllocError>
         requires units { n ≤ 65536 }
         requires some_lane { 0 < lanes }
         requires most_lanes { lanes ≤ 64 }
-        ensures { IfOk result (λ r. (r.0 ≡ core_state n lanes []) × (r.1 ≡ actions_of true (first n lanes))) }
+        ensures { IfOk result (λ r. (r.0 ≡ core_state (terms_of n lanes keep) []) × (r.1 ≡ actions_of true (first (terms_of n lanes keep)))) }
     {
         let journal = Vec::with_capacity(alloc, 8 * n as usize)?;
-        let mut board = Board::new(alloc, n, lanes)?;
+        let terms = Terms {
+            units: n,
+            lanes,
+            keep,
+        };
+        let mut board = Board::new(alloc, terms)?;
         let actions = board.decide(true);
-        Ok((Core { board, journal }, actions))
+        let core = Core {
+            board,
+            failure: None,
+            journal,
+        };
+        Ok((core, actions))
     }
 
     /// Tells the event, and answers what is to be done then.
@@ -68,6 +83,7 @@ impl Core {
     {
         self.board.take_in(event);
         let actions = self.board.decide(event.may_ask());
+        self.failure = event.lesser_failure(self.failure);
         self.journal.push_reserved(event);
         actions
     }
@@ -89,7 +105,7 @@ impl Core {
     /// The events that it was told, in order: a lawful run.
     pub fn journal(&self) -> &[Event]
         ensures events { result.now ≡ self.now.journal }
-        ensures lawful { Lawful self.now.n self.now.lanes self.now.journal }
+        ensures lawful { Lawful self.now.terms self.now.journal }
     {
         &self.journal
     }
@@ -98,7 +114,7 @@ impl Core {
     pub fn first_failure(&self) -> Option<u32>
         ensures { result ≡ least (failed self.now.journal) }
     {
-        self.board.first_failure()
+        self.failure
     }
 }
 

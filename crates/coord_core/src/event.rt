@@ -1,6 +1,7 @@
 //! What the coordinator is told, and what it answers.
 ghost use Rattle.std.specs.Prelude.{◌≡◌};
 ghost use Rattle.coord_core.specs.Decide.{may_ask};
+ghost use Rattle.coord_core.specs.Journal.{failed_by, lesser_by};
 
 /// What came of an action that was out. A byte is a token's, and a number names a unit by its index.
 #[derive(Clone, Copy, PartialEq, Eq, Debug, Drop)]
@@ -41,6 +42,18 @@ impl Event {
             | Event::Made(_)
             | Event::MakeFailed(_)
             | Event::Wanted(_) => true,
+        }
+    }
+
+    // The lesser of this unit, if there is one, and the one whose failure the event tells.
+    pub(crate) fn lesser_failure(&self, least: Option<u32>) -> Option<u32>
+        ensures { result ≡ lesser_by (failed_by self.now) least }
+    {
+        match *self {
+            Event::GenFailed(unit) | Event::MakeFailed(unit) | Event::Wanted(unit) => {
+                Some(least.map_or(unit, |other| unit.min(other)))
+            }
+            _ => least,
         }
     }
 }

@@ -7,7 +7,7 @@
 //!
 //! It is proved to be the definition of `specs/`: a state, the effect of each event on it, and five
 //! decisions after it. Above the definition, `laws` holds what is true of every lawful order of answers:
-//! the tokens bound the jobs, units are generated in order and none is lost below the first failure, no
+//! the tokens bound the jobs, units are generated in order and none is lost below the bar, no
 //! token is lost, and a run ends. It stands on `counting` alone.
 #![tactic(auto)]
 
@@ -18,6 +18,8 @@ mod giving;
 mod job;
 pub mod laws;
 mod queue;
+mod terms;
 
 pub use coordinator::Core;
 pub use event::{Actions, Event, Main};
+pub use terms::Terms;

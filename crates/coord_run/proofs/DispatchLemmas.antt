@@ -17,7 +17,7 @@ append-none (x ∷ xs) = ap (λ (t : List ℕ). x ∷ t) (append-none xs)
 
 module _ {P F : Type 0} (c : Start P F) (b : BooksState P F) (i : ℕ) (rest : List ℕ) (d : DeskState) (p : PoolState) (w : ℕ) (h : Tied c b (i ∷ rest) d p w) where
   -- what a dispatch of the first job that is due requires
-  pub may-dispatch : (1 ≤ d.share) × (times i d.out ≡ 0) × (i < b.n) × HasPart c.meaning b.parts i × (w < 64)
+  pub may-dispatch : (1 ≤ d.share) × (times i d.out ≡ 0) × (i < b.terms.units) × HasPart c.meaning b.parts i × (w < 64)
   may-dispatch =
       let k = bound-of c b (i ∷ rest) d p w h in let o = k.out in let l = k.held in
       let z = hand-of c b (i ∷ rest) d p w h in
@@ -41,8 +41,9 @@ module _ {P F : Type 0} (c : Start P F) (b : BooksState P F) (i : ℕ) (rest : L
       let m = may-dispatch.0 in
       record {
         table = h.table;
-        sized = record { units = h.sized.units; lanes_are = h.sized.lanes_are; some_lane = h.sized.some_lane; most_lanes = h.sized.most_lanes; most_units = h.sized.most_units; width = h.sized.width; part_width = length-set b.parts i None ∙ h.sized.part_width };
+        sized = record { units = h.sized.units; terms_are = h.sized.terms_are; some_lane = h.sized.some_lane; most_lanes = h.sized.most_lanes; most_units = h.sized.most_units; width = h.sized.width; part_width = length-set b.parts i None ∙ h.sized.part_width };
         lawful = h.lawful;
+        turns = h.turns;
         noted = h.noted;
         paid = record { held = e; share = omega arith; out = λ y. let r = h.paid.out y in let n = times-snoc y i d.out in omega arith; waits = omega arith };
         pooled = h.pooled;

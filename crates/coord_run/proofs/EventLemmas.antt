@@ -1,5 +1,5 @@
 -- Each event of a session keeps what ties the books, the desk and the pool.
-use Rattle.std.proofs.Common.{◌≡◌, ℕ, ◌+◌, ◌*◌, ◌<◌, ◌≤◌, max, eqb, Bool, true, false, cond, ◌||◌, List, [], ◌∷◌, ◌++◌, length, Option, Some, None, sym, refl, ap, ◌∙◌, subst, arith}
+use Rattle.std.proofs.Common.{◌≡◌, ℕ, ◌+◌, ◌*◌, ◌<◌, ◌≤◌, max, eqb, Bool, true, false, cond, ◌||◌, is_none, List, [], ◌∷◌, ◌++◌, length, Option, Some, None, sym, refl, ap, ◌∙◌, subst, arith}
 use Rattle.std.proofs.lemmas.Bool.{eqb-true, eq-eqb}
 use Rattle.std.proofs.Math.Nat.{le-max_left}
 use Rattle.counting.specs.Count.{one_if, times}
@@ -21,7 +21,7 @@ use Rattle.coord_core.proofs.Sound.{bounded_by, run-sound, run-spare}
 use Rattle.coord_core.proofs.Hand.{in_hand_at}
 use Rattle.coord_core.proofs.Bag.{bag}
 use Rattle.coord_run.specs.Journal.{events_of, held_in, of_fault}
-use Rattle.coord_run.specs.Books.{BooksState, state_of, fed, losing}
+use Rattle.coord_run.specs.Books.{BooksState, state_of, ask_first_of, fed, losing}
 use Rattle.coord_run.specs.Tied.{Start, Paid, Tied}
 use Rattle.coord_run.proofs.JournalLemmas.{append-none, under-max, ended-le, lost-room}
 use Rattle.coord_run.proofs.PoolLemmas.{CalledBy, dealt-as, called-none, no-empty, empty-now}
@@ -69,14 +69,14 @@ abbrev pub spent : ℕ → TableId → Reading → DeskState → DeskState
 spent i t r d = after_spend (record { table = t; job = Some i; last = Some r }) d
 
 module _ {P F : Type 0} (c : Start P F) (b : BooksState P F) (due : List ℕ) (d : DeskState) (p : PoolState) (w : ℕ) (h : Tied c b due d p w) where
-  pub bound-of : Bounded b.lanes (state_of b)
-  bound-of = bounded_by b.lanes (state_of b) (run-sound b.n b.lanes (events_of b.entries) h.sized.some_lane h.lawful)
+  pub bound-of : Bounded b.terms.lanes (state_of b)
+  bound-of = bounded_by b.terms.lanes (state_of b) (run-sound b.terms (events_of b.entries) h.sized.some_lane h.lawful)
 
   pub spare-of : (state_of b).spare ≡ None
-  spare-of = run-spare b.n b.lanes (events_of b.entries)
+  spare-of = run-spare b.terms (events_of b.entries)
 
-  pub hand-of : InHand b.n (state_of b)
-  hand-of = in_hand_at b.n b.lanes (events_of b.entries) h.lawful
+  pub hand-of : InHand b.terms.units (state_of b)
+  hand-of = in_hand_at b.terms (events_of b.entries) h.lawful
 
 -- what the calls before an event require
 module _ {P F : Type 0} (c : Start P F) (b : BooksState P F) (d : DeskState) (p : PoolState) (w : ℕ) (h : Tied c b [] d p w) where
@@ -93,17 +93,17 @@ module _ {P F : Type 0} (c : Start P F) (b : BooksState P F) (d : DeskState) (p 
       let l : length (state_of b).giving ≡ 1 = ap (λ (z : List ℕ). length z) at in
       let e = h.paid.held in let s = h.paid.share in
       let u = h.pooled.called.owed x in
-      let g = bag b.n b.lanes (events_of b.entries) h.lawful x in
+      let g = bag b.terms (events_of b.entries) h.lawful x in
       let t : times x (state_of b).giving ≡ one_if (eqb x x) + 0 = ap (times x) at in
       let v = one_if-same x in
       (omega arith, omega arith, omega arith)
 
-  pub may-lose : (x : ℕ) → (state_of b).giving ≡ x ∷ [] → length b.lost < 3 * b.n
+  pub may-lose : (x : ℕ) → (state_of b).giving ≡ x ∷ [] → length b.lost < 3 * b.terms.units
   may-lose x at =
-      let r = lost-room b.n b.lanes (events_of b.entries) x h.lawful (gives-at x (state_of b) at) in
+      let r = lost-room b.terms (events_of b.entries) x h.lawful (gives-at x (state_of b) at) in
       let l : length b.lost ≡ length (lost (events_of b.entries)) = ap (λ (z : List ℕ). length z) h.pooled.lost_are in omega arith
 
-  pub may-generate : (i : ℕ) → (state_of b).gen ≡ Some i → (1 ≤ d.share) × (times i d.out ≡ 0) × (i < b.n) × (1 ≤ in_hand i (state_of b))
+  pub may-generate : (i : ℕ) → (state_of b).gen ≡ Some i → (1 ≤ d.share) × (times i d.out ≡ 0) × (i < b.terms.units) × (1 ≤ in_hand i (state_of b))
   may-generate i at =
       let s = state_of b in
       let o = (bound-of c b [] d p w h).out in
@@ -117,14 +117,14 @@ module _ {P F : Type 0} (c : Start P F) (b : BooksState P F) (d : DeskState) (p 
       let n = z.below i in_hand_i in
       (omega arith, omega arith, omega arith, in_hand_i)
 
-  pub may-collect : (i : ℕ) → times i d.out ≡ 1 → (1 ≤ running_at i (state_of b).running) × (i < b.n) × (1 ≤ in_hand i (state_of b)) × (b.tally + 1 < 18446744073709551616)
+  pub may-collect : (i : ℕ) → times i d.out ≡ 1 → (1 ≤ running_at i (state_of b).running) × (i < b.terms.units) × (1 ≤ in_hand i (state_of b)) × (b.tally + 1 < 18446744073709551616)
   may-collect i out =
       let o = h.paid.out i in
       let z = hand-of c b [] d p w h in
       let m = z.most in
       let in_hand_i : 1 ≤ in_hand i (state_of b) = omega arith in
       let n = z.below i in_hand_i in
-      let t = h.tally in let l = ended-le b.n b.lanes (events_of b.entries) h.lawful in let u = h.sized.most_units in
+      let t = h.tally in let l = ended-le b.terms (events_of b.entries) h.lawful in let u = h.sized.most_units in
       (omega arith, omega arith, in_hand_i, omega arith)
 
   pub runs-at : (i : ℕ) → times i d.out ≡ 1 → runs i (state_of b).running ≡ true
@@ -159,9 +159,9 @@ module _ {P F : Type 0} (c : Start P F) (b : BooksState P F) (d : DeskState) (p 
 
 -- the events of the pool
 module _ {P F : Type 0} (c : Start P F) (b : BooksState P F) (d : DeskState) (p : PoolState) (w : ℕ) (h : Tied c b [] d p w) where
-  pub took-ties : (x : ℕ) (p' : PoolState) → (state_of b).asking ≡ true → (state_of b).giving ≡ [] → Dealt p (one_byte x) no_byte 1 0 p'
+  pub took-ties : (x : ℕ) (p' : PoolState) → (state_of b).asking ≡ true → (state_of b).giving ≡ [] → (is_none (state_of b).gen || ask_first_of b) ≡ true → Dealt p (one_byte x) no_byte 1 0 p'
       → Tied c (fed (Took x) None b) (jobs_by (actions_of true (effect (Took x) (state_of b)))) (after_took d) p' w
-  took-ties x p' asks none dealt =
+  took-ties x p' asks none older dealt =
       let s = state_of b in
       let nothing : length s.giving ≡ 0 = ap (λ (z : List ℕ). length z) none in
       let spare = spare-of c b [] d p w h in
@@ -169,6 +169,7 @@ module _ {P F : Type 0} (c : Start P F) (b : BooksState P F) (d : DeskState) (p 
       let k = h.paid.held in
       fed-ties c b (Took x) None b.outcomes b.parts b.lost b.tally d (after_took d) p p' w w h (record {
         awaited = asks;
+        turn = (none, older);
         table = refl;
         lost_more = sym (append-none b.lost);
         paid = paid-told (Took x) s d (after_took d) w w asks spare h.paid (omega arith) (omega arith) (λ y. omega arith) (omega arith);
@@ -185,12 +186,13 @@ module _ {P F : Type 0} (c : Start P F) (b : BooksState P F) (d : DeskState) (p 
         tells = tells-plain c.meaning (events_of b.entries) (Took x) b.outcomes (λ y. refl) h.noted.tells;
       })
 
-  pub empty-ties : (p' : PoolState) → (state_of b).asking ≡ true → Dealt p no_byte no_byte 0 0 p' → NoneFree p.free
+  pub empty-ties : (p' : PoolState) → (state_of b).asking ≡ true → (state_of b).giving ≡ [] → (is_none (state_of b).gen || ask_first_of b) ≡ true → Dealt p no_byte no_byte 0 0 p' → NoneFree p.free
       → Tied c (fed Empty None b) (jobs_by (actions_of false (effect Empty (state_of b)))) d p' w
-  empty-ties p' asks dealt none =
+  empty-ties p' asks given older dealt none =
       let spare = spare-of c b [] d p w h in
       fed-ties c b Empty None b.outcomes b.parts b.lost b.tally d d p p' w w h (record {
         awaited = asks;
+        turn = (given, older);
         table = refl;
         lost_more = sym (append-none b.lost);
         paid = paid-told Empty (state_of b) d d w w asks spare h.paid (omega arith) (omega arith) (λ y. omega arith) (omega arith);
@@ -207,12 +209,13 @@ module _ {P F : Type 0} (c : Start P F) (b : BooksState P F) (d : DeskState) (p 
         tells = tells-plain c.meaning (events_of b.entries) Empty b.outcomes (λ y. refl) h.noted.tells;
       })
 
-  pub fault-ties : (p' : PoolState) → (state_of b).asking ≡ true → Dealt p no_byte no_byte 0 1 p'
+  pub fault-ties : (p' : PoolState) → (state_of b).asking ≡ true → (state_of b).giving ≡ [] → (is_none (state_of b).gen || ask_first_of b) ≡ true → Dealt p no_byte no_byte 0 1 p'
       → Tied c (fed TakeFault None b) (jobs_by (actions_of false (effect TakeFault (state_of b)))) d p' w
-  fault-ties p' asks dealt =
+  fault-ties p' asks given older dealt =
       let spare = spare-of c b [] d p w h in
       fed-ties c b TakeFault None b.outcomes b.parts b.lost b.tally d d p p' w w h (record {
         awaited = asks;
+        turn = (given, older);
         table = refl;
         lost_more = sym (append-none b.lost);
         paid = paid-told TakeFault (state_of b) d d w w asks spare h.paid (omega arith) (omega arith) (λ y. omega arith) (omega arith);
@@ -238,6 +241,7 @@ module _ {P F : Type 0} (c : Start P F) (b : BooksState P F) (d : DeskState) (p 
       let m0 = m.0 in let m1 = m.1 in
       fed-ties c b (Gave x) None b.outcomes b.parts b.lost b.tally d (after_gave d) p p' w w h (record {
         awaited = out;
+        turn = tt;
         table = refl;
         lost_more = sym (append-none b.lost);
         paid = paid-told (Gave x) (state_of b) d (after_gave d) w w out spare h.paid (omega arith) (omega arith) (λ y. omega arith) (omega arith);
@@ -263,6 +267,7 @@ module _ {P F : Type 0} (c : Start P F) (b : BooksState P F) (d : DeskState) (p 
       let m0 = m.0 in let m1 = m.1 in
       fed-ties c b (GiveFault x) None b.outcomes b.parts (b.lost ++ x ∷ []) b.tally d (after_gave d) p p' w w h (record {
         awaited = out;
+        turn = tt;
         table = refl;
         lost_more = refl;
         paid = paid-told (GiveFault x) (state_of b) d (after_gave d) w w out spare h.paid (omega arith) (omega arith) (λ y. omega arith) (omega arith);

@@ -4,6 +4,7 @@ use Rattle.std.proofs.Math.Nat.{le-max_left, le-max_right, max-le}
 use Rattle.counting.specs.Count.{total}
 use Rattle.counting.proofs.Count.{total-snoc}
 use Rattle.lease_table.specs.declared.reading.Reading.{Reading}
+use Rattle.coord_core.specs.declared.terms.Terms.{Terms}
 use Rattle.coord_core.specs.declared.event.Event.{Event}
 use Rattle.coord_core.specs.declared.event.Event.TheVariants.{Took, Empty, TakeFault, Generated, GenFailed, Made, MakeFailed, Wanted, Gave, GiveFault}
 use Rattle.coord_core.specs.State.{State, is_gen}
@@ -50,11 +51,11 @@ greatest-last s (x ∷ xs) e =
     let r = greatest-last (step s x) xs e in
     let b = le-max_right (max (held_in (effect x s)) (held_in (step s x))) (greatest_from (step s x) (xs ++ e ∷ [])) in omega arith
 
-pub greatest-most : (n lanes : ℕ) (es : List Event) (e : Event) (old new : ℕ) → old ≤ greatest n lanes es → new ≤ max old (held_in (effect e (run n lanes es))) → new ≤ greatest n lanes (es ++ e ∷ [])
-greatest-most n lanes es e old new low le =
-    let a = greatest-front (opened n lanes) es e in
-    let b = greatest-last (opened n lanes) es e in
-    let c : max old (held_in (effect e (run n lanes es))) ≤ greatest n lanes (es ++ e ∷ []) = max-le (omega arith) b in omega arith
+pub greatest-most : (terms : Terms) (es : List Event) (e : Event) (old new : ℕ) → old ≤ greatest terms es → new ≤ max old (held_in (effect e (run terms es))) → new ≤ greatest terms (es ++ e ∷ [])
+greatest-most terms es e old new low le =
+    let a = greatest-front (opened terms) es e in
+    let b = greatest-last (opened terms) es e in
+    let c : max old (held_in (effect e (run terms es))) ≤ greatest terms (es ++ e ∷ []) = max-le (omega arith) b in omega arith
 
 read-more : (low high : ℕ) (unit : Option ℕ) (r : Option Reading) → low ≤ high → IsRead low unit r → IsRead high unit r
 read-more low high (Some i) (Some r) le h = let m = h.most in record { least = h.least; bound = h.bound; most = omega arith }
@@ -62,18 +63,18 @@ read-more low high (Some i) None le h = absurd h
 read-more low high None (Some r) le h = absurd h
 read-more low high None None le h = tt
 
-pub readings-more : (n lanes : ℕ) (entries : List Entry) (x : Entry) (old : ℕ) → AtEach (HasReading n lanes) entries → old ≤ greatest n lanes (events_of entries)
-    → IsRead old (unit_of x.event) x.reading → AtEach (HasReading n lanes) (entries ++ x ∷ [])
-readings-more n lanes entries x old h low read =
-    at_each-snoc (HasReading n lanes) entries x h (read-more old _ (unit_of x.event) x.reading (let g = greatest-front (opened n lanes) (events_of entries) x.event in omega arith) read)
+pub readings-more : (terms : Terms) (entries : List Entry) (x : Entry) (old : ℕ) → AtEach (HasReading terms) entries → old ≤ greatest terms (events_of entries)
+    → IsRead old (unit_of x.event) x.reading → AtEach (HasReading terms) (entries ++ x ∷ [])
+readings-more terms entries x old h low read =
+    at_each-snoc (HasReading terms) entries x h (read-more old _ (unit_of x.event) x.reading (let g = greatest-front (opened terms) (events_of entries) x.event in omega arith) read)
 
 -- jobs that the events end
 ended-from-snoc : (s : State) (es : List Event) (e : Event) → ended_from s (es ++ e ∷ []) ≡ ended_from s es + length (ended_by e (run_from s es).gen)
 ended-from-snoc s [] e = omega arith
 ended-from-snoc s (x ∷ xs) e = let h = ended-from-snoc (step s x) xs e in omega arith
 
-pub ended-snoc : (n lanes : ℕ) (es : List Event) (e : Event) → jobs_ended n lanes (es ++ e ∷ []) ≡ jobs_ended n lanes es + length (ended_by e (run n lanes es).gen)
-ended-snoc n lanes es e = ended-from-snoc (opened n lanes) es e
+pub ended-snoc : (terms : Terms) (es : List Event) (e : Event) → jobs_ended terms (es ++ e ∷ []) ≡ jobs_ended terms es + length (ended_by e (run terms es).gen)
+ended-snoc terms es e = ended-from-snoc (opened terms) es e
 
 ends-one : (e : Event) (g : Option ℕ) → length (ended_by e g) ≤ 1
 ends-one (Made i) g = omega arith
@@ -95,8 +96,8 @@ ended-from-le : (s : State) (es : List Event) → ended_from s es ≤ length es
 ended-from-le s [] = omega arith
 ended-from-le s (e ∷ es) = let h = ended-from-le (step s e) es in let o = ends-one e s.gen in omega arith
 
-pub ended-le : (n lanes : ℕ) (es : List Event) → Lawful n lanes es → jobs_ended n lanes es ≤ 8 * n
-ended-le n lanes es l = let h = ended-from-le (opened n lanes) es in let r = room n lanes es l in omega arith
+pub ended-le : (terms : Terms) (es : List Event) → Lawful terms es → jobs_ended terms es ≤ 8 * terms.units
+ended-le terms es l = let h = ended-from-le (opened terms) es in let r = room terms es l in omega arith
 
 -- lost bytes are answers to gives
 lost-one : (e : Event) → length (lost_by e) ≤ of_give e
@@ -115,8 +116,8 @@ lost-le : (es : List Event) → length (lost es) ≤ total of_give es
 lost-le [] = omega arith
 lost-le (e ∷ es) = let h = lost-le es in let n = length-append (lost_by e) (lost es) in let o = lost-one e in omega arith
 
-pub lost-room : (n lanes : ℕ) (es : List Event) (byte : ℕ) → Lawful n lanes es → is_awaited (run n lanes es) (Gave byte) ≡ true → length (lost es) < 3 * n
-lost-room n lanes es byte l out =
-    let f = (few n lanes (es ++ Gave byte ∷ []) (lawful-snoc n lanes es (Gave byte) l out)).gives in
+pub lost-room : (terms : Terms) (es : List Event) (byte : ℕ) → Lawful terms es → is_awaited (run terms es) (Gave byte) ≡ true → length (lost es) < 3 * terms.units
+lost-room terms es byte l out =
+    let f = (few terms (es ++ Gave byte ∷ []) (lawful-snoc terms es (Gave byte) l out)).gives in
     let t = total-snoc of_give es (Gave byte) in
     let h = lost-le es in omega arith

@@ -11,3 +11,5 @@ pub mod EventLemmas
 pub mod UnitLemmas
 pub mod DispatchLemmas
 pub mod SessionLemmas
+pub mod TallyLemmas
+pub mod WholeLemmas

@@ -1,6 +1,7 @@
 -- Each unit has at most one outcome, and none while it is in hand.
 use Rattle.std.proofs.Common.{◌≡◌, ℕ, ◌+◌, ◌<◌, ◌≤◌, eqb, min, Bool, true, false, ◌||◌, cond, List, [], ◌∷◌, length, refl, ap, arith}
 use Rattle.counting.specs.Count.{one_if, times}
+use Rattle.coord_core.specs.declared.terms.Terms.{Terms}
 use Rattle.coord_core.specs.declared.event.Event.{Event}
 use Rattle.coord_core.specs.declared.event.Event.TheVariants.{Took, Empty, TakeFault, Generated, GenFailed, Made, MakeFailed, Wanted, Gave, GiveFault}
 use Rattle.coord_core.specs.State.{State, times_some, in_hand, is_gen, runs}
@@ -8,7 +9,7 @@ use Rattle.coord_core.specs.Effect.{wanted, effect}
 use Rattle.coord_core.specs.Decide.{may_ask, decided, actions_of}
 use Rattle.coord_core.specs.Run.{first, opened, step, run_from, run, is_awaited, LawfulFrom, Lawful}
 use Rattle.coord_core.specs.Journal.{begun_by}
-use Rattle.coord_core.proofs.Jobs.{gen_is, running_at-without, kept_to-fewer}
+use Rattle.coord_core.proofs.Jobs.{gen_is, running_at-without, kept_to-fewer, kept_if-fewer}
 use Rattle.coord_core.proofs.Acted.{acted}
 use Rattle.coord_core.proofs.Hand.{decided-hand, begun-next, once_more, low_more, effect-fewer, effect-next}
 use Rattle.coord_run.specs.Outcomes.{is_outcome_of, outcomes_of}
@@ -31,9 +32,9 @@ outcome-leaves x (Generated i c) s out = let f = effect-fewer x (Generated i c) 
 outcome-leaves x (GenFailed i) s out =
     let l = one-length (eqb x i) (GenFailed i) in
     let g : times_some x s.gen ≡ one_if (eqb x i) = ap (times_some x) (gen_is i s.gen out) in
-    let q = kept_to-fewer x (min s.bar i) s.queue in omega arith
+    let q = kept_if-fewer s.terms.keep x (min s.bar i) s.queue in omega arith
 outcome-leaves x (Made i) s out = let l = one-length (eqb x i) (Made i) in let r = running_at-without x i s.running out in omega arith
-outcome-leaves x (MakeFailed i) s out = let l = one-length (eqb x i) (MakeFailed i) in let r = running_at-without x i s.running out in let q = kept_to-fewer x (min s.bar i) s.queue in omega arith
+outcome-leaves x (MakeFailed i) s out = let l = one-length (eqb x i) (MakeFailed i) in let r = running_at-without x i s.running out in let q = kept_if-fewer s.terms.keep x (min s.bar i) s.queue in omega arith
 outcome-leaves x (Wanted i) s out = by (is_gen i s.gen) refl out
   where
     by : (t : Bool) → is_gen i s.gen ≡ t → (t || runs i s.running) ≡ true → length (outcomes_of x (Wanted i ∷ [])) + in_hand x (wanted t i s) ≤ in_hand x s
@@ -80,15 +81,15 @@ run_from-once x k s (e ∷ es) l h =
     let o = r.once in
     record { once = omega arith; low = λ at. r.low (omega arith) }
 
-first-once : (x n lanes : ℕ) → Once x 0 (first n lanes)
-first-once x n lanes = record { once = omega arith; low = λ at. absurd (omega arith) }
+first-once : (x : ℕ) (terms : Terms) → Once x 0 (first terms)
+first-once x terms = record { once = omega arith; low = λ at. absurd (omega arith) }
 
-run-once : (x n lanes : ℕ) (es : List Event) → Lawful n lanes es → Once x (length (outcomes_of x es)) (run n lanes es)
-run-once x n lanes es l = let r = run_from-once x 0 (opened n lanes) es l (decided-once x 0 true (first n lanes) (first-once x n lanes)) in let o = r.once in record { once = omega arith; low = λ at. r.low (omega arith) }
+run-once : (x : ℕ) (terms : Terms) (es : List Event) → Lawful terms es → Once x (length (outcomes_of x es)) (run terms es)
+run-once x terms es l = let r = run_from-once x 0 (opened terms) es l (decided-once x 0 true (first terms) (first-once x terms)) in let o = r.once in record { once = omega arith; low = λ at. r.low (omega arith) }
 
 none-long : (l : List Event) → length l ≤ 0 → l ≡ []
 none-long [] h = refl
 none-long (x ∷ xs) h = absurd (omega arith)
 
-pub no-outcome : (x n lanes : ℕ) (es : List Event) → Lawful n lanes es → 1 ≤ in_hand x (run n lanes es) → outcomes_of x es ≡ []
-no-outcome x n lanes es l at = let o = (run-once x n lanes es l).once in none-long (outcomes_of x es) (omega arith)
+pub no-outcome : (x : ℕ) (terms : Terms) (es : List Event) → Lawful terms es → 1 ≤ in_hand x (run terms es) → outcomes_of x es ≡ []
+no-outcome x terms es l at = let o = (run-once x terms es l).once in none-long (outcomes_of x es) (omega arith)

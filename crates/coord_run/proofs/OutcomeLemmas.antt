@@ -5,11 +5,13 @@ use Rattle.std.proofs.lemmas.List.{get_or-set_same, get_or-set_other}
 use Rattle.std.proofs.lemmas.List.Elements.{filter-append}
 use Rattle.counting.specs.Count.{one_if, times}
 use Rattle.counting.proofs.Count.{times-append}
+use Rattle.coord_core.specs.declared.terms.Terms.{Terms}
 use Rattle.coord_core.specs.declared.event.Event.{Event}
 use Rattle.coord_core.specs.declared.event.Event.TheVariants.{Took, Empty, TakeFault, Generated, GenFailed, Made, MakeFailed, Wanted, Gave, GiveFault}
 use Rattle.coord_core.specs.Run.{run, Lawful, is_finished}
-use Rattle.coord_core.specs.Journal.{made_by, failed_by, made, failed, least}
+use Rattle.coord_core.specs.Journal.{made_by, failed_by, covered_by, covered, lowered_by, lowered, least}
 use Rattle.coord_core.specs.Laws.{IsLeast}
+use Rattle.coord_core.proofs.Hand.{run-terms}
 use Rattle.coord_core.proofs.Bar.{barred, least-is}
 use Rattle.coord_core.proofs.Cover.{complete}
 use Rattle.coord_run.specs.declared.driven.Made.{Made as Outcome}
@@ -81,32 +83,47 @@ outcome-parts x (Generated i c) = refl
 outcome-parts x (Gave b) = refl
 outcome-parts x (GiveFault b) = refl
 
-outcomes-parts : (x : ℕ) (es : List Event) → times x (made es) + times x (failed es) ≡ length (outcomes_of x es)
-outcomes-parts x [] = refl
-outcomes-parts x (e ∷ es) =
-    let h = outcomes-parts x es in let p = outcome-parts x e in
-    let a = times-append x (made_by e) (made es) in let b = times-append x (failed_by e) (failed es) in
+-- of the units that need no more and those that lowered the bar, each has an outcome
+covered-le : (k : Bool) (x : ℕ) (es : List Event) → times x (covered k es) + times x (lowered k es) ≤ length (outcomes_of x es)
+covered-le k x [] = omega arith
+covered-le k x (e ∷ es) =
+    let h = covered-le k x es in let p = one k e in
+    let a = times-append x (covered_by k e) (covered k es) in let b = times-append x (lowered_by k e) (lowered k es) in
     let c = by (is_outcome_of x e) in omega arith
   where
     by : (b : Bool) → length (cond b (e ∷ outcomes_of x es) (outcomes_of x es)) ≡ length (cond b (e ∷ []) []) + length (outcomes_of x es)
     by true = omega arith
     by false = omega arith
 
--- x was neither made nor did it fail, and all below the bar were made
-after-bar : (o : Option ℕ) (bar n x : ℕ) (made failed : List ℕ) → bar ≡ unwrap_or o n → MatchOption o (failed ≡ []) (IsLeast failed) → x < n → times x made ≡ 0 → times x failed ≡ 0 → ((i : ℕ) → i < bar → 1 ≤ times i made) → IsAfter o x
-after-bar None bar n x made failed is h low none fails below = let k = below x (omega arith) in absurd (omega arith)
-after-bar (Some b) bar n x made failed is h low none fails below = ⊎_elim same (λ (other : (x < b) ⊎ (b < x)). ⊎_elim less (λ (more : b < x). more) other) (cases_order x b)
+    one : (k : Bool) (e : Event) → times x (covered_by k e) + times x (lowered_by k e) ≤ length (outcomes_of x (e ∷ []))
+    one false e = let o = outcome-parts x e in omega arith
+    one true (Made i) = let o = one-of (eqb x i) (Made i) in omega arith
+    one true (GenFailed i) = let o = one-of (eqb x i) (GenFailed i) in omega arith
+    one true (MakeFailed i) = let o = one-of (eqb x i) (MakeFailed i) in omega arith
+    one true (Wanted i) = let o = one-of (eqb x i) (Wanted i) in omega arith
+    one true (Took b) = omega arith
+    one true Empty = omega arith
+    one true TakeFault = omega arith
+    one true (Generated i c) = omega arith
+    one true (Gave b) = omega arith
+    one true (GiveFault b) = omega arith
+
+-- x needs more and did not lower the bar, and all below the bar need no more
+after-bar : (o : Option ℕ) (bar n x : ℕ) (covered lowered : List ℕ) → bar ≡ unwrap_or o n → MatchOption o (lowered ≡ []) (IsLeast lowered) → x < n → times x covered ≡ 0 → times x lowered ≡ 0 → ((i : ℕ) → i < bar → 1 ≤ times i covered) → IsAfter o x
+after-bar None bar n x covered lowered is h low none fails below = let k = below x (omega arith) in absurd (omega arith)
+after-bar (Some b) bar n x covered lowered is h low none fails below = ⊎_elim same (λ (other : (x < b) ⊎ (b < x)). ⊎_elim less (λ (more : b < x). more) other) (cases_order x b)
   where
     same : x ≡ b → b < x
-    same e = let k = h.among in let z : times x failed ≡ times b failed = ap (λ (i : ℕ). times i failed) e in absurd (omega arith)
+    same e = let k = h.among in let z : times x lowered ≡ times b lowered = ap (λ (i : ℕ). times i lowered) e in absurd (omega arith)
 
     less : x < b → b < x
     less l = let k = below x (omega arith) in absurd (omega arith)
 
 module _ {P F : Type 0} where
-  -- in a finished run a skipped unit is after the least one that failed
-  pub skipped-after : (m : Meaning P F) (n lanes : ℕ) (es : List Event) (x : ℕ) → Lawful n lanes es → is_finished (run n lanes es) ≡ true → x < n → TellsOne m x (outcomes_of x es) Outcome-Skipped → IsAfter (least (failed es)) x
-  skipped-after m n lanes es x l end low skipped =
+  -- in a finished run a skipped unit is after the least one whose failure lowered the bar
+  pub skipped-after : (m : Meaning P F) (terms : Terms) (es : List Event) (x : ℕ) → Lawful terms es → is_finished (run terms es) ≡ true → x < terms.units → TellsOne m x (outcomes_of x es) Outcome-Skipped → IsAfter (least (lowered terms.keep es)) x
+  skipped-after m terms es x l end low skipped =
       let none = skipped-none m x (outcomes_of x es) skipped in
-      let p = outcomes-parts x es in
-      after-bar (least (failed es)) (run n lanes es).bar n x (made es) (failed es) (barred n lanes es l).bar (least-is (failed es)) low (omega arith) (omega arith) (complete n lanes es l end).made
+      let p = covered-le terms.keep x es in
+      after-bar (least (lowered terms.keep es)) (run terms es).bar terms.units x (covered terms.keep es) (lowered terms.keep es) (barred terms es l).bar (least-is (lowered terms.keep es)) low (omega arith) (omega arith)
+      (λ i below. subst (λ (k : Bool). 1 ≤ times i (covered k es)) (ap (λ (t : Terms). t.keep) (run-terms terms es)) ((complete terms es l end).covered i below))

@@ -1,5 +1,5 @@
 -- Each event of a unit keeps what ties the books, the desk and the pool.
-use Rattle.std.proofs.Common.{◌≡◌, ℕ, ◌+◌, ◌<◌, ◌≤◌, eqb, Bool, true, false, List, [], ◌∷◌, length, slice_set, Option, Some, None, Ok, Err, sym, refl, ap, ◌∙◌, arith}
+use Rattle.std.proofs.Common.{◌≡◌, ℕ, ◌+◌, ◌<◌, ◌≤◌, eqb, Bool, true, false, List, [], ◌∷◌, length, slice_set, Option, Some, None, Ok, Err, sym, refl, ap, ◌∙◌, subst, arith}
 use Rattle.std.proofs.lemmas.Bool.{eqb-true, eq-eqb}
 use Rattle.std.proofs.lemmas.List.{get_or-set_same, get_or-set_other, length-set}
 use Rattle.counting.specs.Count.{one_if, times}
@@ -17,7 +17,8 @@ use Rattle.coord_core.specs.Laws.{ended_by}
 use Rattle.coord_run.specs.declared.driven.Made.TheVariants.{Made as Outcome-Made, Refused as Outcome-Refused, Wanted as Outcome-Wanted}
 use Rattle.coord_run.specs.Meaning.{Meaning}
 use Rattle.coord_run.specs.Journal.{events_of, held_in}
-use Rattle.coord_run.specs.Books.{BooksState, state_of, part_at, fed, settled, parted, counted}
+use Rattle.coord_run.specs.Turns.{GenerationTurn, JobTurn, WantedTurn}
+use Rattle.coord_run.specs.Books.{BooksState, state_of, ask_first_of, part_at, fed, settled, parted, counted}
 use Rattle.coord_run.specs.Tied.{Start, HasPart, Tied}
 use Rattle.coord_run.proofs.Once.{no-outcome}
 use Rattle.coord_run.proofs.JournalLemmas.{append-none, under-max}
@@ -36,7 +37,7 @@ module _ {P F : Type 0} where
       by false is = let z : one_if (eqb x i) ≡ 0 = ap one_if is in let k = h (omega arith) in (k.0, get_or-set_other ps i x (Some part) None (λ e. absurd (let z = eq-eqb x i e in cc)) ∙ k.1, k.2)
 
 -- the events of a generation
-module _ {P F : Type 0} (c : Start P F) (b : BooksState P F) (i : ℕ) (t : TableId) (r : Reading) (d : DeskState) (p : PoolState) (w : ℕ) (h : Tied c b [] d p w) (at : (state_of b).gen ≡ Some i) (good : IsBegun d.peak r) (fall : (lent-once i t r d).peak ≤ d.peak) where
+module _ {P F : Type 0} (c : Start P F) (b : BooksState P F) (i : ℕ) (t : TableId) (r : Reading) (d : DeskState) (p : PoolState) (w : ℕ) (h : Tied c b [] d p w) (at : (state_of b).gen ≡ Some i) (turn : GenerationTurn (state_of b) (ask_first_of b)) (good : IsBegun d.peak r) (fall : (lent-once i t r d).peak ≤ d.peak) where
   pub generated-ties : (cost : ℕ) (part : P) → c.meaning.generated i ≡ Ok (part, cost) → Tied c (fed (Generated i cost) (Some r) (parted i (Some part) b)) (jobs_by (actions_of true (effect (Generated i cost) (state_of b)))) (lent-once i t r d) p w
   generated-ties cost part meant =
       let s = state_of b in let es = events_of b.entries in
@@ -45,6 +46,7 @@ module _ {P F : Type 0} (c : Start P F) (b : BooksState P F) (i : ℕ) (t : Tabl
       let out = is_gen-at i s at in
       fed-ties c b (Generated i cost) (Some r) b.outcomes (slice_set b.parts i (Some part)) b.lost b.tally d (lent-once i t r d) p p w w h (record {
         awaited = out;
+        turn = turn;
         table = refl;
         lost_more = sym (append-none b.lost);
         paid = gen-paid c b d p w h (Generated i cost) i t r out at refl refl refl refl;
@@ -69,6 +71,7 @@ module _ {P F : Type 0} (c : Start P F) (b : BooksState P F) (i : ℕ) (t : Tabl
       let out = is_gen-at i s at in
       fed-ties c b (GenFailed i) (Some r) (slice_set b.outcomes i (Outcome-Refused f)) b.parts b.lost b.tally d (lent-once i t r d) p p w w h (record {
         awaited = out;
+        turn = turn;
         table = refl;
         lost_more = sym (append-none b.lost);
         paid = gen-paid c b d p w h (GenFailed i) i t r out at refl refl refl refl;
@@ -82,7 +85,7 @@ module _ {P F : Type 0} (c : Start P F) (b : BooksState P F) (i : ℕ) (t : Tabl
         most = under-max _ d.peak (held_in (effect (GenFailed i) s)) fall;
         seen = refl;
         read = good;
-        tells = tells-settled c.meaning es (GenFailed i) i b.outcomes (Outcome-Refused f) (λ y. refl) (no-outcome i b.n b.lanes es h.lawful m.3) (let l = m.2 in omega arith) meant h.noted.tells;
+        tells = tells-settled c.meaning es (GenFailed i) i b.outcomes (Outcome-Refused f) (λ y. refl) (no-outcome i b.terms es h.lawful m.3) (let l = m.2 in omega arith) meant h.noted.tells;
       })
 
   pub gen_wanted-ties : Tied c (fed (Wanted i) (Some r) (settled i Outcome-Wanted b)) (jobs_by (actions_of true (effect (Wanted i) (state_of b)))) (lent-once i t r d) p w
@@ -94,6 +97,7 @@ module _ {P F : Type 0} (c : Start P F) (b : BooksState P F) (i : ℕ) (t : Tabl
       let ends : length (ended_by (Wanted i) s.gen) ≡ 0 = ap (λ (z : List ℕ). length z) (wanted-gen i s.gen at) in
       fed-ties c b (Wanted i) (Some r) (slice_set b.outcomes i Outcome-Wanted) b.parts b.lost b.tally d (lent-once i t r d) p p w w h (record {
         awaited = out;
+        turn = subst (λ (z : Bool). WantedTurn z s (ask_first_of b)) (sym (is_gen-at i s at)) turn;
         table = refl;
         lost_more = sym (append-none b.lost);
         paid = gen-paid c b d p w h (Wanted i) i t r out at refl refl refl (wanted-gen i s.gen at);
@@ -107,11 +111,11 @@ module _ {P F : Type 0} (c : Start P F) (b : BooksState P F) (i : ℕ) (t : Tabl
         most = under-max _ d.peak (held_in (effect (Wanted i) s)) fall;
         seen = refl;
         read = good;
-        tells = tells-settled c.meaning es (Wanted i) i b.outcomes Outcome-Wanted (λ y. refl) (no-outcome i b.n b.lanes es h.lawful m.3) (let l = m.2 in omega arith) tt h.noted.tells;
+        tells = tells-settled c.meaning es (Wanted i) i b.outcomes Outcome-Wanted (λ y. refl) (no-outcome i b.terms es h.lawful m.3) (let l = m.2 in omega arith) tt h.noted.tells;
       })
 
 -- the events of a job
-module _ {P F : Type 0} (c : Start P F) (b : BooksState P F) (i makes : ℕ) (t : TableId) (r : Reading) (d : DeskState) (p : PoolState) (w w' : ℕ) (h : Tied c b [] d p w) (at : times i d.out ≡ 1) (once : makes ≡ 1) (less : w' + 1 ≡ w) (good : IsBegun d.peak r) (fall : (spent i t r d).peak ≤ d.peak) where
+module _ {P F : Type 0} (c : Start P F) (b : BooksState P F) (i makes : ℕ) (t : TableId) (r : Reading) (d : DeskState) (p : PoolState) (w w' : ℕ) (h : Tied c b [] d p w) (at : times i d.out ≡ 1) (turn : JobTurn (state_of b)) (once : makes ≡ 1) (less : w' + 1 ≡ w) (good : IsBegun d.peak r) (fall : (spent i t r d).peak ≤ d.peak) where
   pub made-ties : (bytes : List ℕ) → c.meaning.made i ≡ Ok bytes → Tied c (fed (Made i) (Some r) (settled i (Outcome-Made bytes) (counted makes b))) (jobs_by (actions_of true (effect (Made i) (state_of b)))) (spent i t r d) p w'
   made-ties bytes meant =
       let s = state_of b in let es = events_of b.entries in
@@ -120,6 +124,7 @@ module _ {P F : Type 0} (c : Start P F) (b : BooksState P F) (i makes : ℕ) (t 
       let out = runs-at c b d p w h i at in
       fed-ties c b (Made i) (Some r) (slice_set b.outcomes i (Outcome-Made bytes)) b.parts b.lost (b.tally + makes) d (spent i t r d) p p w w' h (record {
         awaited = out;
+        turn = turn;
         table = refl;
         lost_more = sym (append-none b.lost);
         paid = job-paid c b d p w h (Made i) i t r w' out at less refl refl refl refl;
@@ -133,7 +138,7 @@ module _ {P F : Type 0} (c : Start P F) (b : BooksState P F) (i makes : ℕ) (t 
         most = under-max _ d.peak (held_in (effect (Made i) s)) fall;
         seen = refl;
         read = good;
-        tells = tells-settled c.meaning es (Made i) i b.outcomes (Outcome-Made bytes) (λ y. refl) (no-outcome i b.n b.lanes es h.lawful m.2) (let l = m.1 in omega arith) meant h.noted.tells;
+        tells = tells-settled c.meaning es (Made i) i b.outcomes (Outcome-Made bytes) (λ y. refl) (no-outcome i b.terms es h.lawful m.2) (let l = m.1 in omega arith) meant h.noted.tells;
       })
 
   pub make_failed-ties : (f : F) → c.meaning.made i ≡ Err f → Tied c (fed (MakeFailed i) (Some r) (settled i (Outcome-Refused f) (counted makes b))) (jobs_by (actions_of true (effect (MakeFailed i) (state_of b)))) (spent i t r d) p w'
@@ -144,6 +149,7 @@ module _ {P F : Type 0} (c : Start P F) (b : BooksState P F) (i makes : ℕ) (t 
       let out = runs-at c b d p w h i at in
       fed-ties c b (MakeFailed i) (Some r) (slice_set b.outcomes i (Outcome-Refused f)) b.parts b.lost (b.tally + makes) d (spent i t r d) p p w w' h (record {
         awaited = out;
+        turn = turn;
         table = refl;
         lost_more = sym (append-none b.lost);
         paid = job-paid c b d p w h (MakeFailed i) i t r w' out at less refl refl refl refl;
@@ -157,21 +163,22 @@ module _ {P F : Type 0} (c : Start P F) (b : BooksState P F) (i makes : ℕ) (t 
         most = under-max _ d.peak (held_in (effect (MakeFailed i) s)) fall;
         seen = refl;
         read = good;
-        tells = tells-settled c.meaning es (MakeFailed i) i b.outcomes (Outcome-Refused f) (λ y. refl) (no-outcome i b.n b.lanes es h.lawful m.2) (let l = m.1 in omega arith) meant h.noted.tells;
+        tells = tells-settled c.meaning es (MakeFailed i) i b.outcomes (Outcome-Refused f) (λ y. refl) (no-outcome i b.terms es h.lawful m.2) (let l = m.1 in omega arith) meant h.noted.tells;
       })
 
-  pub make_wanted-ties : (state_of b).gen ≡ None → Tied c (fed (Wanted i) (Some r) (settled i Outcome-Wanted (counted makes b))) (jobs_by (actions_of true (effect (Wanted i) (state_of b)))) (spent i t r d) p w'
-  make_wanted-ties none =
+  pub make_wanted-ties : Tied c (fed (Wanted i) (Some r) (settled i Outcome-Wanted (counted makes b))) (jobs_by (actions_of true (effect (Wanted i) (state_of b)))) (spent i t r d) p w'
+  make_wanted-ties =
       let s = state_of b in let es = events_of b.entries in
       let m = may-collect c b d p w h i at in
       let n = h.sized.width in
       let out = or-last (is_gen i s.gen) (runs i s.running) (runs-at c b d p w h i at) in
-      let ends : length (ended_by (Wanted i) s.gen) ≡ 1 = ap (λ (z : List ℕ). length z) (wanted-job i s.gen none) in
+      let ends : length (ended_by (Wanted i) s.gen) ≡ 1 = ap (λ (z : List ℕ). length z) (wanted-job i s.gen turn.1) in
       fed-ties c b (Wanted i) (Some r) (slice_set b.outcomes i Outcome-Wanted) b.parts b.lost (b.tally + makes) d (spent i t r d) p p w w' h (record {
         awaited = out;
+        turn = subst (λ (z : Option ℕ). WantedTurn (is_gen i z) s (ask_first_of b)) (sym turn.1) turn;
         table = refl;
         lost_more = sym (append-none b.lost);
-        paid = job-paid c b d p w h (Wanted i) i t r w' out at less refl refl refl (wanted-job i s.gen none);
+        paid = job-paid c b d p w h (Wanted i) i t r w' out at less refl refl refl (wanted-job i s.gen turn.1);
         called = called-nothing c b d p w h (Wanted i) refl refl refl;
         empty = no-empty c.pool.free es (Wanted i) (λ f. tt);
         cost = tt;
@@ -182,5 +189,5 @@ module _ {P F : Type 0} (c : Start P F) (b : BooksState P F) (i makes : ℕ) (t 
         most = under-max _ d.peak (held_in (effect (Wanted i) s)) fall;
         seen = refl;
         read = good;
-        tells = tells-settled c.meaning es (Wanted i) i b.outcomes Outcome-Wanted (λ y. refl) (no-outcome i b.n b.lanes es h.lawful m.2) (let l = m.1 in omega arith) tt h.noted.tells;
+        tells = tells-settled c.meaning es (Wanted i) i b.outcomes Outcome-Wanted (λ y. refl) (no-outcome i b.terms es h.lawful m.2) (let l = m.1 in omega arith) tt h.noted.tells;
       })

@@ -1,6 +1,7 @@
--- What contracts see of the books of a session, and how each call changes them.
-use Rattle.std.specs.Prelude.{◌≡◌, ℕ, ◌+◌, ◌*◌, ◌≤◌, List, [], ◌∷◌, ◌++◌, length, slice_set, slice_index_or, All, Option, None}
+-- What contracts see of the books of a session, and how each call changes them. No promise, but for the code and its proof alone.
+use Rattle.std.specs.Prelude.{◌≡◌, ℕ, ◌+◌, ◌*◌, ◌≤◌, Bool, List, [], ◌∷◌, ◌++◌, length, slice_set, slice_index_or, All, Option, None}
 use Rattle.lease_table.specs.declared.reading.Reading.{Reading}
+use Rattle.coord_core.specs.declared.terms.Terms.{Terms}
 use Rattle.coord_core.specs.declared.event.Event.{Event}
 use Rattle.coord_core.specs.State.{State}
 use Rattle.coord_core.specs.Run.{run, Lawful}
@@ -10,12 +11,12 @@ use Rattle.coord_run.specs.declared.driven.Made.{Made}
 use Rattle.coord_run.specs.declared.driven.Made.TheVariants.{Skipped}
 use Rattle.coord_run.specs.declared.pending.Pending.{Pending}
 use Rattle.coord_run.specs.Journal.{events_of}
+use Rattle.coord_run.specs.Turns.{ask_first}
 use Rattle.coord_run.specs.Pending.{IsPending}
 
--- n: units. lanes: jobs that may be out at once. entries: the journal so far. outcomes: what came of each unit. parts: what was generated and not yet made. lost: bytes that could not be given back. tally: jobs that ended
+-- terms: those of the run. entries: the journal so far. outcomes: what came of each unit. parts: what was generated and not yet made. lost: bytes that could not be given back. tally: jobs that ended
 pub record BooksState (P F : Type 0) : Type 0 where
-  pub n : ℕ
-  pub lanes : ℕ
+  pub terms : Terms
   pub entries : List Entry
   pub outcomes : List (Made F)
   pub parts : List (Option P)
@@ -28,11 +29,15 @@ module _ {P : Type 0} where
 
 module _ {P F : Type 0} where
   abbrev pub books_state : CoreState → List Entry → List (Made F) → List (Option P) → List ℕ → ℕ → BooksState P F
-  books_state core entries outcomes parts lost tally = record { n = core.n; lanes = core.lanes; entries = entries; outcomes = outcomes; parts = parts; lost = lost; tally = tally }
+  books_state core entries outcomes parts lost tally = record { terms = core.terms; entries = entries; outcomes = outcomes; parts = parts; lost = lost; tally = tally }
 
   -- the coordinator's state after the journal
   abbrev pub state_of : BooksState P F → State
-  state_of b = run b.n b.lanes (events_of b.entries)
+  state_of b = run b.terms (events_of b.entries)
+
+  -- whether an ask is out that was decided before the generation that is out
+  abbrev pub ask_first_of : BooksState P F → Bool
+  ask_first_of b = ask_first b.terms (events_of b.entries)
 
   -- one entry more
   abbrev pub fed : Event → Option Reading → BooksState P F → BooksState P F
@@ -55,22 +60,21 @@ module _ {P F : Type 0} where
   losing byte b = record b { lost = b.lost ++ byte ∷ [] }
 
   -- new books, in which nothing stands
-  pub record IsNew (n lanes : ℕ) (b : BooksState P F) : Type 0 where
-    pub n_is : b.n ≡ n
-    pub lanes_is : b.lanes ≡ lanes
+  pub record IsNew (terms : Terms) (b : BooksState P F) : Type 0 where
+    pub terms_are : b.terms ≡ terms
     pub entries : b.entries ≡ []
     pub lost : b.lost ≡ []
     pub tally : b.tally ≡ 0
-    pub width : length b.outcomes ≡ n
-    pub part_width : length b.parts ≡ n
+    pub width : length b.outcomes ≡ terms.units
+    pub part_width : length b.parts ≡ terms.units
     pub skipped : All (λ o. o ≡ Skipped) b.outcomes
 
 -- the journal is the coordinator's, with room for each entry and each lost byte that can come, and the pending actions are those that its state waits for
 pub record IsBooks (core : CoreState) (entries : List Entry) (room outcomes parts lost_room : ℕ) (pending : Pending) : Type 0 where
   pub journal : core.journal ≡ events_of entries
-  pub lawful : Lawful core.n core.lanes core.journal
-  pub room_is : 8 * core.n ≤ room
-  pub width : outcomes ≡ core.n
-  pub part_width : parts ≡ core.n
-  pub lost_is : 3 * core.n ≤ lost_room
-  pub pending_is : IsPending (state_in core) pending
+  pub lawful : Lawful core.terms core.journal
+  pub room_is : 8 * core.terms.units ≤ room
+  pub width : outcomes ≡ core.terms.units
+  pub part_width : parts ≡ core.terms.units
+  pub lost_is : 3 * core.terms.units ≤ lost_room
+  pub pending_is : IsPending (state_in core) (ask_first core.terms core.journal) pending

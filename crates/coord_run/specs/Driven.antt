@@ -3,6 +3,7 @@ use Rattle.std.specs.Prelude.{◌≡◌, ℕ, ◌<◌, ◌≤◌, List, [], ◌+
 use Rattle.counting.specs.Count.{times, total}
 use Rattle.lease_table.specs.Desk.{DeskState}
 use Rattle.token_pool.specs.Pool.{PoolState, Dealt, FreeMoved, Moved, no_byte}
+use Rattle.coord_core.specs.declared.terms.Terms.{Terms}
 use Rattle.coord_core.specs.declared.event.Event.{Event}
 use Rattle.coord_core.specs.Journal.{took, gave, lost}
 use Rattle.coord_run.specs.declared.driven.Entry.{Entry}
@@ -40,10 +41,10 @@ pub record IsBack (before : DeskState) (entries : List Entry) (after : DeskState
   pub out : after.out ≡ []
   pub seen : after.seen ≡ before.seen ++ readings_of entries
 
--- what a session gives, of this work with so many lanes, from these states of desk and pool
-pub record IsDriven {P F : Type 0} (m : Meaning P F) (lanes : ℕ) (desk : DeskState) (pool : PoolState) (d : Driven F) (desk' : DeskState) (pool' : PoolState) : Type 0 where
-  pub journal : IsJournal m lanes d.journal.items
-  pub outcomes : AreOutcomes m (events_of d.journal.items) d.outcomes.items
-  pub tally : d.tally ≡ jobs_ended m.count lanes (events_of d.journal.items)
+-- what a session gives, of this work on these terms, from these states of desk and pool
+pub record IsDriven {P F : Type 0} (m : Meaning P F) (terms : Terms) (desk : DeskState) (pool : PoolState) (d : Driven F) (desk' : DeskState) (pool' : PoolState) : Type 0 where
+  pub journal : IsJournal m terms d.journal.items
+  pub outcomes : AreOutcomes m terms.keep (events_of d.journal.items) d.outcomes.items
+  pub tally : d.tally ≡ jobs_ended terms (events_of d.journal.items)
   pub back : IsBack desk d.journal.items desk'
   pub repaid : IsRepaid pool (events_of d.journal.items) d.lost pool'

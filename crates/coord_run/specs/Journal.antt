@@ -4,6 +4,7 @@ use Rattle.counting.specs.Count.{times}
 use Rattle.lease_table.specs.declared.reading.Reading.{Reading}
 use Rattle.lease_table.specs.Reading.{IsBegun}
 use Rattle.token_pool.specs.Pool.{Bag}
+use Rattle.coord_core.specs.declared.terms.Terms.{Terms}
 use Rattle.coord_core.specs.declared.event.Event.{Event}
 use Rattle.coord_core.specs.declared.event.Event.TheVariants.{Empty, TakeFault, Generated, GenFailed, Made, MakeFailed, Wanted, GiveFault}
 use Rattle.coord_core.specs.State.{State, payers, one_some}
@@ -13,6 +14,7 @@ use Rattle.coord_core.specs.Journal.{took, gave}
 use Rattle.coord_core.specs.Laws.{ended_by}
 use Rattle.coord_run.specs.declared.driven.Entry.{Entry}
 use Rattle.coord_run.specs.Meaning.{Meaning}
+use Rattle.coord_run.specs.Turns.{InTurn}
 
 abbrev pub events_of : List Entry → List Event
 events_of [] = []
@@ -50,8 +52,8 @@ abbrev pub greatest_from : State → List Event → ℕ
 greatest_from s [] = 0
 greatest_from s (e ∷ es) = max (max (held_in (effect e s)) (held_in (step s e))) (greatest_from (step s e) es)
 
-abbrev pub greatest : ℕ → ℕ → List Event → ℕ
-greatest n lanes events = greatest_from (opened n lanes) events
+abbrev pub greatest : Terms → List Event → ℕ
+greatest terms events = greatest_from (opened terms) events
 
 -- an entry that is about a unit has a reading, in which no more are held than most, and no other entry has one
 abbrev pub IsRead : ℕ → Option ℕ → Option Reading → Type 0
@@ -59,16 +61,16 @@ IsRead most (Some i) (Some r) = IsBegun most r
 IsRead most None None = Unit {0}
 IsRead most _ _ = ⊥
 
-abbrev pub HasReading : ℕ → ℕ → List Entry → Entry → Type 0
-HasReading n lanes before x = IsRead (greatest n lanes (events_of before ++ x.event ∷ [])) (unit_of x.event) x.reading
+abbrev pub HasReading : Terms → List Entry → Entry → Type 0
+HasReading terms before x = IsRead (greatest terms (events_of before ++ x.event ∷ [])) (unit_of x.event) x.reading
 
 -- how many jobs the events end
 abbrev pub ended_from : State → List Event → ℕ
 ended_from s [] = 0
 ended_from s (e ∷ es) = length (ended_by e s.gen) + ended_from (step s e) es
 
-abbrev pub jobs_ended : ℕ → ℕ → List Event → ℕ
-jobs_ended n lanes events = ended_from (opened n lanes) events
+abbrev pub jobs_ended : Terms → List Event → ℕ
+jobs_ended terms events = ended_from (opened terms) events
 
 -- 1 for a call of the pool that failed
 abbrev pub of_fault : Event → ℕ
@@ -95,9 +97,10 @@ module _ {P F : Type 0} where
   HasCost m (Generated i c) = (part : P) × (m.generated i ≡ Ok (part, c))
   HasCost m _ = Unit {0}
 
-  -- the journal of a session of this work: a lawful run of the coordinator that ends finished, with the work's costs and with readings
-  pub record IsJournal (m : Meaning P F) (lanes : ℕ) (entries : List Entry) : Type 0 where
-    pub lawful : Lawful m.count lanes (events_of entries)
-    pub finished : is_finished (run m.count lanes (events_of entries)) ≡ true
+  -- the journal of a session of this work on these terms: a lawful run of the coordinator that ends finished, whose events come in their turn, with the work's costs and with readings
+  pub record IsJournal (m : Meaning P F) (terms : Terms) (entries : List Entry) : Type 0 where
+    pub lawful : Lawful terms (events_of entries)
+    pub finished : is_finished (run terms (events_of entries)) ≡ true
+    pub turns : InTurn terms (events_of entries)
     pub costs : All (HasCost m) (events_of entries)
-    pub readings : AtEach (HasReading m.count lanes) entries
+    pub readings : AtEach (HasReading terms) entries

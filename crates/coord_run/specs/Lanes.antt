@@ -1,4 +1,4 @@
--- What contracts see of the lanes.
+-- What contracts see of the lanes. No promise, but for the code and its proof alone.
 use Rattle.std.specs.Prelude.{ℕ}
 
 -- work: the work whose jobs they run. waiting: jobs that are out

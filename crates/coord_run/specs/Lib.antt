@@ -3,9 +3,11 @@ pub mod Messages
 pub mod Rules
 pub mod Static
 pub mod Lanes
+pub mod Turns
 pub mod Pending
 pub mod Journal
 pub mod Outcomes
 pub mod Driven
+pub mod Whole
 pub mod Books
 pub mod Tied

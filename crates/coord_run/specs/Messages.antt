@@ -1,4 +1,4 @@
--- Jobs and their results, of a work.
+-- Jobs and their results, of a work. No promise, but for the code and its proof alone.
 use Rattle.std.specs.Prelude.{◌≡◌, ◌<◌, Some}
 use Rattle.coord_run.specs.declared.message.Job.{Job}
 use Rattle.coord_run.specs.declared.message.Done.{Done}

@@ -2,7 +2,7 @@
 use Rattle.std.specs.Prelude.{◌≡◌, ℕ, ◌<◌, ◌==◌, Bool, false, List, [], ◌∷◌, length, filter, slice_index_or, Option, Some, None, Ok, Err}
 use Rattle.coord_core.specs.declared.event.Event.{Event}
 use Rattle.coord_core.specs.declared.event.Event.TheVariants.{GenFailed, Made, MakeFailed, Wanted}
-use Rattle.coord_core.specs.Journal.{failed, least}
+use Rattle.coord_core.specs.Journal.{lowered, least}
 use Rattle.coord_run.specs.declared.driven.Made.{Made as Outcome}
 use Rattle.coord_run.specs.declared.driven.Made.TheVariants.{Made as Outcome-Made, Refused as Outcome-Refused, Wanted as Outcome-Wanted, Skipped as Outcome-Skipped}
 use Rattle.coord_run.specs.Meaning.{Meaning}
@@ -18,7 +18,7 @@ is_outcome_of x _ = false
 abbrev pub outcomes_of : ℕ → List Event → List Event
 outcomes_of x events = filter (is_outcome_of x) events
 
--- unit x is after the least one of those that failed
+-- unit x is after this one, if there is one
 abbrev pub IsAfter : Option ℕ → ℕ → Type 0
 IsAfter (Some bar) x = bar < x
 IsAfter None x = ⊥
@@ -42,8 +42,8 @@ module _ {P F : Type 0} where
   TellsOne m x (e ∷ []) o = Tells m x e o
   TellsOne m x (e ∷ e' ∷ es) o = ⊥
 
-  -- each outcome is the one that the events tell
-  pub record AreOutcomes (m : Meaning P F) (events : List Event) (outcomes : List (Outcome F)) : Type 0 where
+  -- each outcome is the one that the events tell. A skipped unit is after the least one whose failure lowered the bar
+  pub record AreOutcomes (m : Meaning P F) (keep : Bool) (events : List Event) (outcomes : List (Outcome F)) : Type 0 where
     pub width : length outcomes ≡ m.count
     pub tells : (x : ℕ) → TellsOne m x (outcomes_of x events) (outcome_at outcomes x)
-    pub skipped : (x : ℕ) → x < m.count → outcome_at outcomes x ≡ Outcome-Skipped → IsAfter (least (failed events)) x
+    pub skipped : (x : ℕ) → x < m.count → outcome_at outcomes x ≡ Outcome-Skipped → IsAfter (least (lowered keep events)) x

@@ -1,4 +1,4 @@
--- The rule of a channel whose messages are about one work. What a pass knows is that work, as contracts see it.
+-- The rule of a channel whose messages are about one work. What a pass knows is that work, as contracts see it. No promise, but for the code and its proof alone.
 use Rattle.std.specs.Prelude.{◌≡◌, ℕ, List, Option, Some, None, All}
 use mathlib.Core.Option.{some}
 use lib.ListN.{get_elem?}

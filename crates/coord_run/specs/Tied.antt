@@ -1,9 +1,10 @@
--- What ties the books, the desk and the pool to one another between two steps of a session.
-use Rattle.std.specs.Prelude.{◌≡◌, ℕ, ◌+◌, ◌<◌, ◌≤◌, List, [], ◌∷◌, ◌++◌, length, All, true, Option, Some, None, option_to_list}
+-- What ties the books, the desk and the pool to one another between two steps of a session. No promise, but for the code and its proof alone.
+use Rattle.std.specs.Prelude.{◌≡◌, ℕ, ◌+◌, ◌<◌, ◌≤◌, List, [], ◌∷◌, ◌++◌, length, All, true, false, ◌&&◌, ◌||◌, is_none, Option, Some, None, option_to_list}
 use Rattle.counting.specs.Count.{times}
 use Rattle.lease_table.specs.declared.reading.Reading.{Reading}
 use Rattle.lease_table.specs.Desk.{DeskState}
 use Rattle.token_pool.specs.Pool.{PoolState}
+use Rattle.coord_core.specs.declared.terms.Terms.{Terms}
 use Rattle.coord_core.specs.declared.event.Event.{Event}
 use Rattle.coord_core.specs.State.{State, queued_at, running_at, bytes_in}
 use Rattle.coord_core.specs.Run.{Lawful}
@@ -14,12 +15,13 @@ use Rattle.coord_run.specs.Meaning.{Meaning, IsPartOf}
 use Rattle.coord_run.specs.Journal.{events_of, readings_of, greatest, jobs_ended, AtEach, HasReading, HasCost, Empties}
 use Rattle.coord_run.specs.Outcomes.{outcomes_of, outcome_at, TellsOne}
 use Rattle.coord_run.specs.Driven.{Called}
-use Rattle.coord_run.specs.Books.{BooksState, state_of, part_at}
+use Rattle.coord_run.specs.Turns.{InTurn}
+use Rattle.coord_run.specs.Books.{BooksState, state_of, ask_first_of, part_at}
 
 -- where a session began
 pub record Start (P F : Type 0) : Type 0 where
   pub meaning : Meaning P F
-  pub lanes : ℕ
+  pub terms : Terms
   pub desk : DeskState
   pub pool : PoolState
 
@@ -46,31 +48,32 @@ module _ {P F : Type 0} where
   HasParts m parts s due = (x : ℕ) → 1 ≤ queued_at x s.queue + times x due → HasPart m parts x
 
   -- the books are those of the work, within the limits
-  pub record Sized (c : Start P F) (n lanes outcomes parts : ℕ) : Type 0 where
-    pub units : n ≡ c.meaning.count
-    pub lanes_are : lanes ≡ c.lanes
-    pub some_lane : 0 < lanes
-    pub most_lanes : lanes ≤ 64
-    pub most_units : n ≤ 65536
-    pub width : outcomes ≡ n
-    pub part_width : parts ≡ n
+  pub record Sized (c : Start P F) (terms : Terms) (outcomes parts : ℕ) : Type 0 where
+    pub terms_are : terms ≡ c.terms
+    pub units : terms.units ≡ c.meaning.count
+    pub some_lane : 0 < terms.lanes
+    pub most_lanes : terms.lanes ≤ 64
+    pub most_units : terms.units ≤ 65536
+    pub width : outcomes ≡ terms.units
+    pub part_width : parts ≡ terms.units
 
   -- the entries have costs and readings, the desk's peak is no higher than what the session held, the desk has seen the readings, and the outcomes are those that the events tell
-  pub record Noted (m : Meaning P F) (n lanes : ℕ) (before : DeskState) (entries : List Entry) (outcomes : List (Outcome F)) (peak : ℕ) (seen : List (Option ℕ × Reading)) : Type 0 where
+  pub record Noted (m : Meaning P F) (terms : Terms) (before : DeskState) (entries : List Entry) (outcomes : List (Outcome F)) (peak : ℕ) (seen : List (Option ℕ × Reading)) : Type 0 where
     pub costs : All (HasCost m) (events_of entries)
-    pub readings : AtEach (HasReading n lanes) entries
-    pub most : peak ≤ greatest n lanes (events_of entries)
+    pub readings : AtEach (HasReading terms) entries
+    pub most : peak ≤ greatest terms (events_of entries)
     pub seen_is : seen ≡ before.seen ++ readings_of entries
     pub tells : (x : ℕ) → TellsOne m x (outcomes_of x (events_of entries)) (outcome_at outcomes x)
 
   pub record Tied (c : Start P F) (b : BooksState P F) (due : List ℕ) (desk : DeskState) (pool : PoolState) (waiting : ℕ) : Type 0 where
     pub table : desk.table ≡ c.meaning.table
-    pub sized : Sized c b.n b.lanes (length b.outcomes) (length b.parts)
-    pub lawful : Lawful b.n b.lanes (events_of b.entries)
-    pub noted : Noted c.meaning b.n b.lanes c.desk b.entries b.outcomes desk.peak desk.seen
+    pub sized : Sized c b.terms (length b.outcomes) (length b.parts)
+    pub lawful : Lawful b.terms (events_of b.entries)
+    pub turns : InTurn b.terms (events_of b.entries)
+    pub noted : Noted c.meaning b.terms c.desk b.entries b.outcomes desk.peak desk.seen
     pub paid : Paid (state_of b) due desk waiting
     pub pooled : Pooled c.pool (events_of b.entries) b.lost pool
-    pub tally : b.tally ≡ jobs_ended b.n b.lanes (events_of b.entries)
+    pub tally : b.tally ≡ jobs_ended b.terms (events_of b.entries)
     pub parts : HasParts c.meaning b.parts (state_of b) due
 
   -- What a step needs: it is tied to some start.
@@ -78,7 +81,7 @@ module _ {P F : Type 0} where
 
   -- a step on the pool
   abbrev pub CanAsk : BooksState P F → DeskState → PoolState → Type 0
-  CanAsk b d p = (c : Start P F) × (waiting : ℕ) × Tied c b [] d p waiting × ((state_of b).asking ≡ true) × ((state_of b).giving ≡ [])
+  CanAsk b d p = (c : Start P F) × (waiting : ℕ) × Tied c b [] d p waiting × ((state_of b).asking ≡ true) × ((state_of b).giving ≡ []) × ((is_none (state_of b).gen || ask_first_of b) ≡ true)
 
   abbrev pub CanGive : ℕ → BooksState P F → DeskState → PoolState → Type 0
   CanGive byte b d p = (c : Start P F) × (waiting : ℕ) × Tied c b [] d p waiting × ((state_of b).giving ≡ byte ∷ [])
@@ -88,14 +91,14 @@ module _ {P F : Type 0} where
 
   -- a generation
   abbrev pub CanGenerate : Meaning P F → ℕ → BooksState P F → DeskState → Type 0
-  CanGenerate m x b d = (c : Start P F) × (p : PoolState) × (waiting : ℕ) × (c.meaning ≡ m) × Tied c b [] d p waiting × ((state_of b).gen ≡ Some x) × ((state_of b).giving ≡ [])
+  CanGenerate m x b d = (c : Start P F) × (p : PoolState) × (waiting : ℕ) × (c.meaning ≡ m) × Tied c b [] d p waiting × ((state_of b).gen ≡ Some x) × ((state_of b).giving ≡ []) × (((state_of b).asking && ask_first_of b) ≡ false)
 
   abbrev pub KeepsWork : Meaning P F → BooksState P F → DeskState → BooksState P F → List ℕ → DeskState → Type 0
   KeepsWork m b d b' due' d' = (c : Start P F) (p : PoolState) (waiting : ℕ) → c.meaning ≡ m → Tied c b [] d p waiting → Tied c b' due' d' p waiting
 
   -- a step on the lanes
   abbrev pub CanCollect : Meaning P F → BooksState P F → DeskState → ℕ → Type 0
-  CanCollect m b d waiting = (c : Start P F) × (p : PoolState) × (c.meaning ≡ m) × Tied c b [] d p waiting × ((state_of b).gen ≡ None) × ((state_of b).giving ≡ []) × (1 ≤ waiting)
+  CanCollect m b d waiting = (c : Start P F) × (p : PoolState) × (c.meaning ≡ m) × Tied c b [] d p waiting × ((state_of b).gen ≡ None) × ((state_of b).giving ≡ []) × (1 ≤ waiting) × ((state_of b).asking ≡ false)
 
   abbrev pub CanFollow : Meaning P F → BooksState P F → List ℕ → DeskState → ℕ → Type 0
   CanFollow m b due d waiting = (c : Start P F) × (p : PoolState) × (c.meaning ≡ m) × Tied c b due d p waiting

@@ -14,14 +14,13 @@ ghost use Rattle.coord_run.specs.Tied.{CanAsk, CanGive, KeepsPool, CanGenerate, 
 
 use crate::books::Books;
 use crate::driven::Made;
-use crate::fault::WorkFault;
 use crate::gate::Gate;
 use crate::lanes::Lanes;
 use crate::message::Done;
 use crate::rules::Naming;
 use crate::work::Work;
 use coord_core::{Actions, Event};
-use lar_bytes::Bytes;
+use lar_bytes::{Bytes, OrMemory};
 use lease_table::{Desk, Reading};
 use std::alloc::Global;
 use std::sync::Wait;
@@ -74,7 +73,7 @@ fn generate_under<W: Work>(
     work: &W,
     desk: &mut Desk,
     unit: u32,
-) -> (Reading, Result<(W::Part, u32), WorkFault<W::Fault>>)
+) -> (Reading, Result<(W::Part, u32), OrMemory<W::Fault>>)
     requires table { desk.old.table ≡ (W.meaning work.now).table }
     requires share { 1 ≤ desk.old.share }
     requires absent { times unit desk.old.out ≡ 0 }
@@ -108,11 +107,11 @@ pub fn generate<W: Work>(
             books.keep_part(unit, part);
             books.next(Event::Generated(unit, cost), Some(reading))
         }
-        Err(WorkFault::Refused(fault)) => {
+        Err(OrMemory::Refused(fault)) => {
             books.settle(unit, Made::Refused(fault));
             books.next(Event::GenFailed(unit), Some(reading))
         }
-        Err(WorkFault::Memory) => {
+        Err(OrMemory::Memory) => {
             books.settle(unit, Made::Wanted);
             books.next(Event::Wanted(unit), Some(reading))
         }
@@ -124,7 +123,7 @@ struct Received<F> {
     unit: u32,
     reading: Reading,
     makes: u64,
-    outcome: Result<Bytes, WorkFault<F>>,
+    outcome: Result<Bytes, OrMemory<F>>,
 }
 
 // The next result. Its lease is spent, so its unit was out, and its outcome is the definition's.
@@ -183,11 +182,11 @@ pub fn collect<W: Work, G: Gate, J: Naming<W>, R: Wait>(
             books.settle(unit, Made::Made(bytes));
             books.next(Event::Made(unit), Some(reading))
         }
-        Err(WorkFault::Refused(fault)) => {
+        Err(OrMemory::Refused(fault)) => {
             books.settle(unit, Made::Refused(fault));
             books.next(Event::MakeFailed(unit), Some(reading))
         }
-        Err(WorkFault::Memory) => {
+        Err(OrMemory::Memory) => {
             books.settle(unit, Made::Wanted);
             books.next(Event::Wanted(unit), Some(reading))
         }

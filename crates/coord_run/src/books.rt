@@ -6,12 +6,12 @@ ghost use Rattle.coord_core.specs.Effect.{effect};
 ghost use Rattle.coord_core.specs.Decide.{may_ask, actions_of};
 ghost use Rattle.coord_core.specs.Run.{first, is_awaited, is_finished};
 ghost use Rattle.coord_run.specs.declared.driven.Made.TheVariants.{Skipped};
-ghost use Rattle.coord_run.specs.Books.{state_of, fed, settled, parted, part_at, counted, losing, IsNew};
-ghost use Rattle.coord_run.specs.Pending.{IsPending};
+ghost use Rattle.coord_run.specs.Books.{state_of, ask_first_of, fed, settled, parted, part_at, counted, losing, IsNew};
+ghost use Rattle.coord_run.specs.Pending.{IsNext};
 
 use crate::driven::{Driven, Entry, Made};
-use crate::pending::Pending;
-use coord_core::{Actions, Core, Event};
+use crate::pending::{Pending, Turn};
+use coord_core::{Actions, Core, Event, Terms};
 use lar_bytes::Bytes;
 use lease_table::Reading;
 use std::alloc::{AllocError, Global};
@@ -65,17 +65,18 @@ fn no_parts<P: Drop>(alloc: Global, n: u32) -> Result<Vec<Option<P>>, AllocError
 
 impl<P: Drop, F: Drop> Books<P, F> {
     /// New books, and what is to be done first.
-    pub fn new(alloc: Global, n: u32, lanes: u8) -> Result<(Books<P, F>, Actions), AllocError>
-        requires units { n ≤ 65536 }
-        requires some_lane { 0 < lanes }
-        requires most_lanes { lanes ≤ 64 }
-        ensures { IfOk result (λ r. IsNew n lanes r.0 × (r.1 ≡ actions_of true (first n lanes))) }
+    pub fn new(alloc: Global, terms: Terms) -> Result<(Books<P, F>, Actions), AllocError>
+        requires units { terms.units ≤ 65536 }
+        requires some_lane { 0 < terms.lanes }
+        requires most_lanes { terms.lanes ≤ 64 }
+        ensures { IfOk result (λ r. IsNew terms r.0 × (r.1 ≡ actions_of true (first terms))) }
     {
-        let outcomes = skipped(alloc, n)?;
-        let parts = no_parts(alloc, n)?;
-        let journal = Vec::with_capacity(alloc, 8 * n as usize)?;
-        let lost = Vec::with_capacity(alloc, 3 * n as usize)?;
-        let (core, actions) = Core::new(alloc, n, lanes)?;
+        let Terms { units, lanes, keep } = terms;
+        let outcomes = skipped(alloc, units)?;
+        let parts = no_parts(alloc, units)?;
+        let journal = Vec::with_capacity(alloc, 8 * units as usize)?;
+        let lost = Vec::with_capacity(alloc, 3 * units as usize)?;
+        let (core, actions) = Core::new(alloc, units, lanes, keep)?;
         let books = Books {
             core,
             journal,
@@ -113,11 +114,11 @@ impl<P: Drop, F: Drop> Books<P, F> {
         }
     }
 
-    /// The actions that the coordinator is to answer itself.
-    pub fn pending(&self) -> Pending
-        ensures { IsPending (state_of self.now) result }
+    /// What is answered next.
+    pub fn turn(&self) -> Turn
+        ensures { IsNext (state_of self.now) (ask_first_of self.now) result }
     {
-        self.pending
+        self.pending.turn()
     }
 
     /// Whether nothing is left to do.
@@ -166,7 +167,7 @@ impl<P: Drop, F: Drop> Books<P, F> {
 
     /// Notes a byte that could not be given back.
     pub fn lose(&mut self, byte: u8)
-        requires { length self.old.lost < 3 * self.old.n }
+        requires { length self.old.lost < 3 * self.old.terms.units }
         ensures { self.new ≡ losing byte self.old }
     {
         self.lost.push_reserved(byte);

@@ -12,7 +12,8 @@ pub enum Made<F> {
     Refused(F),
     /// There was no memory to generate or to make it.
     Wanted,
-    /// It was not reached, or dropped: a unit before it failed.
+    /// It was not reached, or dropped: a unit before it found no memory, or was refused where the session
+    /// does not keep going.
     Skipped,
 }
 

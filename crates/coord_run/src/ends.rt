@@ -8,7 +8,7 @@ ghost use Rattle.coord_run.specs.declared.message.Message.TheVariants.{Run};
 ghost use Rattle.coord_run.specs.Messages.{FitsJob, FitsDone};
 
 use crate::gate::Gate;
-use crate::lane::{DonePass, DoneReceiver, JobPass, JobSender, start};
+use crate::lane::{DonePass, DoneReceiver, JobPass, JobSender, start_lane};
 use crate::message::{Done, Job, Message};
 use crate::rules::{DoneRule, FitsDones, FitsJobs, JobRule, Naming};
 use crate::work::Work;
@@ -56,7 +56,7 @@ pub fn open<W: Work, G: Gate, J: Naming<W>, R: Threads + Wait + Copy + Send + Sy
         alloc, JOBS,
     )?;
     for lane in 0..lanes {
-        if let Some(handle) = start::<W, G, J, R>(
+        if let Some(handle) = start_lane::<W, G, J, R>(
             rt,
             alloc,
             work,

@@ -5,11 +5,10 @@ ghost use Rattle.lease_table.specs.Lease.{IsSameBusy};
 ghost use Rattle.coord_run.specs.Meaning.{Answers, IsPartOf};
 ghost use Rattle.coord_run.specs.Messages.{FitsJob, FitsDone};
 
-use crate::fault::WorkFault;
 use crate::gate::Gate;
 use crate::message::{Done, Job};
 use crate::work::Work;
-use lar_bytes::Bytes;
+use lar_bytes::{Bytes, OrMemory};
 use lease_table::Busy;
 use std::alloc::Global;
 use std::marker::Brand;
@@ -25,7 +24,7 @@ fn counted<W: Work, L: Ledger>(
     part: W::Part,
     busy: &mut Busy,
     blank: Blank,
-) -> (Result<Bytes, WorkFault<W::Fault>>, u64)
+) -> (Result<Bytes, OrMemory<W::Fault>>, u64)
     requires blank { (blank.name ≡ L.name) × (blank.parts ≡ L.parts) × (0 < blank.parts) }
     requires unit { unit < (W.meaning (arc_value work.now)).count }
     requires part { IsPartOf (W.meaning (arc_value work.now)) unit part }
@@ -40,7 +39,7 @@ fn counted<W: Work, L: Ledger>(
 }
 
 /// Runs the job in the thread that calls it.
-pub fn run<W: Work, G: Gate, R: Wait>(
+pub fn do_job<W: Work, G: Gate, R: Wait>(
     rt: &R,
     alloc: Global,
     work: &Arc<W>,

@@ -9,7 +9,7 @@ ghost use Rattle.coord_run.specs.Static.{IsStatic};
 ghost use Rattle.coord_run.specs.Messages.{FitsDone};
 
 use crate::gate::Gate;
-use crate::job::run;
+use crate::job::do_job;
 use crate::message::{Done, Message};
 use crate::rules::{DoneRule, FitsDones, FitsJobs, JobRule, Naming, Same};
 use crate::work::Work;
@@ -78,7 +78,7 @@ fn seat<W: Work, G: Gate, J: Naming<W>>(
 }
 
 /// Starts one more lane, if there are memory and a thread for it.
-pub fn start<W: Work, G: Gate, J: Naming<W>, R: Threads + Wait + Copy + Send + Sync + 'static>(
+pub fn start_lane<W: Work, G: Gate, J: Naming<W>, R: Threads + Wait + Copy + Send + Sync + 'static>(
     rt: &R,
     alloc: Global,
     work: &Arc<W>,
@@ -156,7 +156,7 @@ fn run_all<W: Work, G: Gate, J: Naming<W>, R: Wait + Copy>(
         let Message::Run(job) = message else {
             break;
         };
-        let done = run(&rt, alloc, &work, &gate, job);
+        let done = do_job(&rt, alloc, &work, &gate, job);
         hand_in::<W, J, R>(&rt, &work, &dones, &mut done_pass, done);
     }
 }

@@ -1,12 +1,15 @@
 //! The lanes, as the loop uses them: jobs go out, results come in. A job that the channel hands back,
 //! as where no lane was started, is run here, and its result waits with those of the lanes.
+//!
+//! At most 64 jobs are out, and the channel to the lanes has room for as many jobs and stops: a send
+//! finds room, but where another thread is in the middle of a step on the channel.
 ghost use Rattle.std.specs.Prelude.{◌≡◌, ◌≤◌, ◌<◌, ◌+◌, Some, IfOk};
 ghost use Rattle.std.specs.Arc.{arc_value};
 ghost use Rattle.coord_run.specs.Messages.{FitsJob, FitsDone};
 
 use crate::ends::{Ends, JOBS, open};
 use crate::gate::Gate;
-use crate::job::run;
+use crate::job::do_job;
 use crate::message::{Done, Job, Message};
 use crate::rules::Naming;
 use crate::work::Work;
@@ -36,7 +39,7 @@ impl<W: Work, G: Gate, J: Naming<W>> Model for Lanes<W, G, J> {
 
     ghost view = { λ l. record { work = arc_value l.work; waiting = l.waiting } };
 
-    ghost invariant = { λ l. All (FitsDone (W.meaning (arc_value l.work))) l.own.items × (64 ≤ vec_capacity l.own) × (vec_len l.own ≤ l.waiting) };
+    ghost invariant = { λ l. All (FitsDone (W.meaning (arc_value l.work))) l.own.items × (64 ≤ vec_capacity l.own) × (vec_len l.own ≤ l.waiting) × (l.waiting ≤ 64) };
 }
 
 impl<W: Work, G: Gate, J: Naming<W>> Lanes<W, G, J> {
@@ -65,8 +68,20 @@ impl<W: Work, G: Gate, J: Naming<W>> Lanes<W, G, J> {
         })
     }
 
+    /// The work whose jobs they run.
+    pub fn work(&self) -> &W
+        ensures { result.now ≡ self.now.work }
+    {
+        &self.work
+    }
+
+    /// Where jobs and generations take their memory.
+    pub fn alloc(&self) -> Global {
+        self.alloc
+    }
+
     /// Sends a job out.
-    pub fn dispatch<R: Wait>(&mut self, rt: &R, job: Job<W::Part>)
+    pub fn send<R: Wait>(&mut self, rt: &R, job: Job<W::Part>)
         requires fits { FitsJob (W.meaning self.old.work) job }
         requires room { self.old.waiting < 64 }
         ensures work { self.new.work ≡ self.old.work }
@@ -76,7 +91,7 @@ impl<W: Work, G: Gate, J: Naming<W>> Lanes<W, G, J> {
         match self.ends.send(rt, job) {
             Ok(()) => {}
             Err(Message::Run(job)) => {
-                let done = run(rt, self.alloc, &self.work, &self.gate, job);
+                let done = do_job(rt, self.alloc, &self.work, &self.gate, job);
                 self.own.push_reserved(done);
             }
             Err(Message::Stop) => unreachable!(),

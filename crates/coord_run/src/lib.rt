@@ -20,20 +20,20 @@ mod books;
 mod driven;
 mod driving;
 mod ends;
-mod fault;
 mod gate;
 mod job;
 mod lane;
 mod lanes;
+pub mod laws;
 mod message;
 mod pending;
 mod rules;
+mod session;
 mod starting;
 mod work;
 
 pub use driven::{Driven, Entry, Made};
 pub use driving::drive;
-pub use fault::WorkFault;
 pub use gate::{FreeGate, Gate};
 pub use work::Work;
 

@@ -1,8 +1,7 @@
 //! What goes to a lane and what comes back.
 ghost use Rattle.std.specs.Prelude.{◌≡◌, Some};
 
-use crate::fault::WorkFault;
-use lar_bytes::Bytes;
+use lar_bytes::{Bytes, OrMemory};
 use lease_table::{Lease, Reading};
 
 /// A unit's part to be made, with the lease that pays for it.
@@ -23,7 +22,7 @@ pub struct Done<F> {
     pub reading: Reading,
     /// How often the unit was made.
     pub makes: u64,
-    pub outcome: Result<Bytes, WorkFault<F>>,
+    pub outcome: Result<Bytes, OrMemory<F>>,
     pub ghost job: { lease.job ≡ Some unit },
     pub ghost word: { lease.last ≡ Some reading },
     pub ghost once: { makes ≡ 1 },

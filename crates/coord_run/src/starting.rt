@@ -17,7 +17,7 @@ use coord_core::{Actions, Main};
 use lease_table::Desk;
 use std::sync::Wait;
 
-// Sends the unit's part out, with a lease that names the unit.
+// Dispatches the unit: takes its part, lends a lease that names it, and sends both out.
 fn dispatch<W: Work, G: Gate, J: Naming<W>, R: Wait>(
     rt: &R,
     books: &mut Books<W::Part, W::Fault>,
@@ -39,11 +39,11 @@ fn dispatch<W: Work, G: Gate, J: Naming<W>, R: Wait>(
 {
     let part = books.take_part(unit);
     let lease = desk.lend_for(unit);
-    lanes.dispatch(rt, Job { unit, part, lease });
+    lanes.send(rt, Job { unit, part, lease });
 }
 
-// Sends the job out, if there is one.
-fn start<W: Work, G: Gate, J: Naming<W>, R: Wait>(
+// Dispatches the unit of the job, if there is one.
+fn dispatch_if_any<W: Work, G: Gate, J: Naming<W>, R: Wait>(
     rt: &R,
     books: &mut Books<W::Part, W::Fault>,
     desk: &mut Desk,
@@ -91,6 +91,6 @@ pub fn follow<W: Work, G: Gate, J: Naming<W>, R: Wait>(
     ensures work { lanes.new.work ≡ lanes.old.work }
     ensures keeps { KeepsJobs (W.meaning lanes.old.work) books.old (jobs_by actions) desk.old lanes.old.waiting books.new [] desk.new lanes.new.waiting }
 {
-    start(rt, books, desk, lanes, started(actions.start));
-    start(rt, books, desk, lanes, lent(actions.main));
+    dispatch_if_any(rt, books, desk, lanes, started(actions.start));
+    dispatch_if_any(rt, books, desk, lanes, lent(actions.main));
 }

@@ -56,6 +56,7 @@ fn driven_on<Q: TokenPool, G: Gate, R: Threads + Wait + Copy + Send + Sync + 'st
     pool: &mut Q,
     desk: &mut Desk,
     lanes: u8,
+    keep: bool,
 ) -> Result<Driven<u8>, AllocError>
     requires few { vec_len plans ≤ 65536 }
     requires some_lane { 0 < lanes }
@@ -66,7 +67,7 @@ fn driven_on<Q: TokenPool, G: Gate, R: Threads + Wait + Copy + Send + Sync + 'st
 {
     let mark = desk.mark()?;
     let work = Arc::new(alloc, Table { mark, plans })?;
-    drive(rt, alloc, &work, gate, pool, desk, lanes)
+    drive(rt, alloc, &work, gate, pool, desk, lanes, keep)
 }
 
 // Runs the table's units.
@@ -77,13 +78,14 @@ fn driven<Q: TokenPool, G: Gate, R: Threads + Wait + Copy + Send + Sync + 'stati
     gate: &Arc<G>,
     pool: &mut Q,
     lanes: u8,
+    keep: bool,
 ) -> Result<Driven<u8>, AllocError>
     requires few { vec_len plans ≤ 65536 }
     requires some_lane { 0 < lanes }
     requires most_lanes { lanes ≤ 64 }
 {
     let mut desk = Leases::new(alloc)?;
-    let driven = driven_on(rt, alloc, plans, gate, pool, &mut desk, lanes);
+    let driven = driven_on(rt, alloc, plans, gate, pool, &mut desk, lanes, keep);
     desk.close();
     driven
 }
@@ -95,6 +97,7 @@ fn driven_with<R: Threads + Wait + Copy + Send + Sync + 'static>(
     plans: &[Plan],
     bytes: &[u8],
     lanes: u8,
+    keep: bool,
 ) -> Result<(Driven<u8>, Vec<u8>), Fail>
     requires few { length plans.now ≤ 65536 }
     requires bytes { length bytes.now ≤ 1024 }
@@ -103,7 +106,15 @@ fn driven_with<R: Threads + Wait + Copy + Send + Sync + 'static>(
 {
     let gate = Arc::new(alloc, FreeGate)?;
     let mut pool = MemoryPool::new(rt, alloc, bytes)?;
-    let driven = driven(rt, alloc, plans.to_vec(alloc)?, &gate, &mut pool, lanes)?;
+    let driven = driven(
+        rt,
+        alloc,
+        plans.to_vec(alloc)?,
+        &gate,
+        &mut pool,
+        lanes,
+        keep,
+    )?;
     Ok((driven, pool.left(rt, alloc)?.into_vec()))
 }
 
@@ -122,7 +133,7 @@ fn alone(event: Event) -> Entry {
 #[test]
 fn two_units_in_one_lane(rt: HostRuntime) -> Result<(), Fail> {
     let plans = [Plan::made(5, 0x10), Plan::made(2, 0x11)];
-    let (driven, left) = driven_with(&rt, rt.alloc(), &plans, b"a", 1)?;
+    let (driven, left) = driven_with(&rt, rt.alloc(), &plans, b"a", 1, false)?;
     let wanted = [
         alone(Event::Generated(0, 5)),
         alone(Event::Made(0)),
@@ -155,8 +166,26 @@ fn two_sessions_on_one_desk(rt: HostRuntime) -> Result<(), Fail> {
     let plans = [Plan::made(5, 0x10), Plan::made(2, 0x11)];
     let (first, second) = (plans.to_vec(rt.alloc())?, plans.to_vec(rt.alloc())?);
     let mut desk = Leases::new(rt.alloc())?;
-    let first = driven_on(&rt, rt.alloc(), first, &gate, &mut pool, &mut desk, 4);
-    let second = driven_on(&rt, rt.alloc(), second, &gate, &mut pool, &mut desk, 1);
+    let first = driven_on(
+        &rt,
+        rt.alloc(),
+        first,
+        &gate,
+        &mut pool,
+        &mut desk,
+        4,
+        false,
+    );
+    let second = driven_on(
+        &rt,
+        rt.alloc(),
+        second,
+        &gate,
+        &mut pool,
+        &mut desk,
+        1,
+        false,
+    );
     desk.close();
     let wanted = [
         alone(Event::Generated(0, 5)),
@@ -172,7 +201,7 @@ fn two_sessions_on_one_desk(rt: HostRuntime) -> Result<(), Fail> {
 
 #[test]
 fn no_unit(rt: HostRuntime) -> Result<(), Fail> {
-    let (driven, left) = driven_with(&rt, rt.alloc(), &[], b"a", 8)?;
+    let (driven, left) = driven_with(&rt, rt.alloc(), &[], b"a", 8, false)?;
     assert!(rt; driven.journal.is_empty() && driven.outcomes.is_empty() && driven.lost.is_empty());
     assert_eq!(rt; driven.tally, 0);
     assert_eq!(rt; left.as_slice(), b"a".as_slice());
@@ -187,14 +216,14 @@ fn three_units_and_a_token(rt: HostRuntime) -> Result<(), Fail> {
         Plan::made(7, 0x22),
     ];
     for lanes in [1, 2, 8] {
-        let (driven, left) = driven_with(&rt, rt.alloc(), &plans, b"a", lanes)?;
+        let (driven, left) = driven_with(&rt, rt.alloc(), &plans, b"a", lanes, false)?;
         for unit in 0..3usize {
             assert_eq!(rt; of(&driven, unit), Said::Byte(0x20 + unit as u8));
         }
         assert_eq!(rt; driven.tally, 3);
         assert_eq!(rt; left.as_slice(), b"a".as_slice());
     }
-    let (driven, _) = driven_with(&rt, rt.alloc(), &plans, b"a", 2)?;
+    let (driven, _) = driven_with(&rt, rt.alloc(), &plans, b"a", 2, false)?;
     let first = [
         Event::Generated(0, 9),
         Event::Took(b'a'),
@@ -215,7 +244,7 @@ fn the_first_unit_that_fails_is_the_same_in_any_lanes(rt: HostRuntime) -> Result
         Plan::not_generated(30),
     ];
     for lanes in [1, 2, 8] {
-        let (driven, left) = driven_with(&rt, rt.alloc(), &plans, b"abb", lanes)?;
+        let (driven, left) = driven_with(&rt, rt.alloc(), &plans, b"abb", lanes, false)?;
         assert_eq!(rt; of(&driven, 0), Said::Byte(0x30));
         assert_eq!(rt; of(&driven, 1), Said::Refused(33));
         assert_eq!(rt; left.as_slice(), b"abb".as_slice());
@@ -232,7 +261,7 @@ fn the_last_unit_alone_fails(rt: HostRuntime) -> Result<(), Fail> {
         Plan::not_generated(30),
     ];
     for lanes in [1, 2, 8] {
-        let (driven, _) = driven_with(&rt, rt.alloc(), &plans, b"abb", lanes)?;
+        let (driven, _) = driven_with(&rt, rt.alloc(), &plans, b"abb", lanes, false)?;
         for unit in 0..3usize {
             assert_eq!(rt; of(&driven, unit), Said::Byte(0x30 + unit as u8));
         }

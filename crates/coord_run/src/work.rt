@@ -8,8 +8,7 @@ ghost use Rattle.std.specs.Prelude.{◌≡◌, ◌<◌, ◌+◌};
 ghost use Rattle.lease_table.specs.Lease.{IsSameBusy};
 ghost use Rattle.coord_run.specs.Meaning.{Meaning, Answers, IsPartOf};
 
-use crate::fault::WorkFault;
-use lar_bytes::Bytes;
+use lar_bytes::{Bytes, OrMemory};
 use lease_table::{Busy, Mark};
 use std::alloc::Global;
 use std::sync::ledger::Ledger;
@@ -39,7 +38,7 @@ pub trait Work: Drop + Send + Sync + 'static {
         alloc: Global,
         unit: u32,
         busy: &mut Busy,
-    ) -> Result<(Self::Part, u32), WorkFault<Self::Fault>>
+    ) -> Result<(Self::Part, u32), OrMemory<Self::Fault>>
         requires unit { unit < (meaning self.now).count }
         requires table { busy.old.table ≡ (meaning self.now).table }
         ensures busy { IsSameBusy busy.old busy.new }
@@ -53,7 +52,7 @@ pub trait Work: Drop + Send + Sync + 'static {
         part: Self::Part,
         busy: &mut Busy,
         steps: &mut Steps<L>,
-    ) -> Result<Bytes, WorkFault<Self::Fault>>
+    ) -> Result<Bytes, OrMemory<Self::Fault>>
         requires unit { unit < (meaning self.now).count }
         requires part { IsPartOf (meaning self.now) unit part }
         requires table { busy.old.table ≡ (meaning self.now).table }

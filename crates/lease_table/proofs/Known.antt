@@ -1,5 +1,5 @@
 -- The moves at a seat whose view is known, and what they make of it.
-use Rattle.std.proofs.Common.{◌≡◌, ℕ, ◌+◌, ◌-◌, ◌%◌, ◌^◌, ◌<◌, ◌≤◌, true, false, [], Some, Option, sym, ap, ◌∙◌, subst}
+use Rattle.std.proofs.Common.{◌≡◌, ℕ, ◌+◌, ◌-◌, ◌%◌, ◌^◌, ◌<◌, ◌≤◌, true, false, [], Some, None, Option, sym, ap, ◌∙◌, subst}
 use mathlib.Core.Option.{none}
 use Rattle.counting.specs.Count.{times}
 use Rattle.atomic_table.specs.Seated.{TableId}
@@ -9,12 +9,13 @@ use Rattle.lease_table.specs.declared.view.DeskView.{DeskView}
 use Rattle.lease_table.specs.declared.view.LeaseView.{LeaseView}
 use Rattle.lease_table.specs.declared.view.View.{View}
 use Rattle.lease_table.specs.declared.view.View.TheVariants.{OfDesk, OfLease, Spent}
+use Rattle.lease_table.specs.View.{opened}
 use Rattle.lease_table.specs.Rule.{Ruled}
-use Rattle.lease_table.specs.Steps.{on_desk, on_lease, lease_begun, lease_ended, desk_spent, desk_side, lease_side, both_sides, Took, Gave, Named, Began, Ended, Looked}
+use Rattle.lease_table.specs.Steps.{on_desk, on_lease, lease_begun, lease_ended, desk_spent, desk_side, lease_side, both_sides, alone_lease, Took, Gave, Named, Began, Stood, Ended, Looked}
 use Rattle.lease_table.specs.Desk.{desk_of}
 use Rattle.lease_table.specs.Lease.{lease_of, word_or, IsLease}
 use Rattle.lease_table.proofs.DeskMoves.{takes, gives, names, lends, spends, looks}
-use Rattle.lease_table.proofs.LeaseMoves.{begins, ends}
+use Rattle.lease_table.proofs.LeaseMoves.{begins, stands, ends}
 
 abbrev Seated : Type 0
 Seated = Me (Unit {0}) View
@@ -26,6 +27,9 @@ lease_of-known me l e = (e ∙ sym (ap (λ (m : Seated). let x : Seated = (OfLea
 -- the moves, at a view that is known through the seat
 pub begins_at : (slots id : ℕ) (me : Seated) → me ≡ (OfLease (lease_of me.0), []) → (lease_of me.0).busy ≡ false → Allows Ruled slots id me 0 (λ n. (n + 1) % 2 ^ 64) (Began (step slots 0 1 0 none) me)
 begins_at slots id me is idle = subst (λ (m : Seated). Allows Ruled slots id m 0 (λ n. (n + 1) % 2 ^ 64) (Began (step slots 0 1 0 none) m)) (sym is) (begins slots id (lease_of me.0) idle)
+
+pub stands_at : (slots id : ℕ) (me : Seated) → me ≡ (opened, []) → Allows Ruled slots id me 0 (λ n. (n + 1) % 2 ^ 64) (Stood (step slots 0 1 0 none) me)
+stands_at slots id me is = subst (λ (m : Seated). Allows Ruled slots id m 0 (λ n. (n + 1) % 2 ^ 64) (Stood (step slots 0 1 0 none) m)) (sym is) (stands slots id)
 
 pub ends_at : (slots id : ℕ) (me : Seated) → me ≡ (OfLease (lease_of me.0), []) → (lease_of me.0).busy ≡ true → Allows Ruled slots id me 0 (λ n. (n + (2 ^ 64 - 1)) % 2 ^ 64) (Ended (step slots 0 1 0 none) me)
 ends_at slots id me is busy = subst (λ (m : Seated). Allows Ruled slots id m 0 (λ n. (n + (2 ^ 64 - 1)) % 2 ^ 64) (Ended (step slots 0 1 0 none) m)) (sym is) (ends slots id (lease_of me.0) busy)
@@ -64,6 +68,13 @@ IsLease-begun table at at' me me' r job known e new =
     let l = lease_of-known me' (lease_begun r (lease_of me.0)) (on_lease-known (lease_begun r) me me' (lease_of me.0) known.lease new) in
     let word : (lease_of me'.0).word ≡ Some r = ap (λ (l : LeaseView). l.word) l.1 in
     record { same = e ∙ known.same; wide = known.wide; lease = l.0; job_is = ap (λ (l : LeaseView). l.job) l.1 ∙ known.job_is; busy_is = ap (λ (l : LeaseView). l.busy) l.1; begun = λ _. word ∙ sym (ap (λ (o : Option Reading). Some (word_or o)) word) }
+
+-- the lease that has a table of its own
+pub IsLease-alone : (table at : TableId) (me me' : Seated) → table.words ≡ 2 → at ≡ table → me ≡ (opened, []) → me' ≡ (OfLease alone_lease, me.1) → IsLease table at me' None true × (lease_of me'.0 ≡ alone_lease)
+IsLease-alone table at me me' wide same is new =
+    let l = lease_of-known me' alone_lease (new ∙ ap (λ (m : Seated). let x : Seated = (OfLease alone_lease, m.1) in x) is) in
+    let word : (lease_of me'.0).word ≡ alone_lease.word = ap (λ (l : LeaseView). l.word) l.1 in
+    (record { same = same; wide = wide; lease = l.0; job_is = ap (λ (l : LeaseView). l.job) l.1; busy_is = ap (λ (l : LeaseView). l.busy) l.1; begun = λ _. word ∙ sym (ap (λ (o : Option Reading). Some (word_or o)) word) }, l.1)
 
 pub IsLease-ended : (table at at' : TableId) (me me' : Seated) (job : Option ℕ) → IsLease table at me job true → at' ≡ at → me' ≡ (on_lease lease_ended me.0, me.1) → IsLease table at' me' job false
 IsLease-ended table at at' me me' job known e new =

@@ -97,6 +97,13 @@ abbrev pub Began : Step (Unit {0}) → Seated → ℕ → Seated → Type 0
 Began st me found me' =
     (held : ℕ) × (running : ℕ) × (found ≡ word_of held running) × (running ≤ held) × (held ≤ 63) × (me' ≡ (on_lease (lease_begun (reading held (running + 1))) me.0, me.1))
 
+-- the one share of a table on which nothing was done yet, as a busy lease for no job
+abbrev pub alone_lease : LeaseView
+alone_lease = record { job = None; busy = true; word = Some (reading 0 1) }
+
+abbrev pub Stood : Step (Unit {0}) → Seated → ℕ → Seated → Type 0
+Stood st me found me' = me' ≡ (OfLease alone_lease, me.1)
+
 abbrev pub Ended : Step (Unit {0}) → Seated → ℕ → Seated → Type 0
 Ended st me found me' = me' ≡ (on_lease lease_ended me.0, me.1)
 

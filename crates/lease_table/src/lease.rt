@@ -2,10 +2,11 @@
 //! and is then busy; a busy lease ends and is a lease again, for the same job, and keeps the word
 //! that its last begin step left. One that is dropped keeps its share away from the desk for good.
 ghost use Rattle.std.specs.Prelude.{◌≡◌, ◌≤◌, ◌+◌, Some, None, true, false, IfOk};
+ghost use Rattle.lease_table.specs.Reading.{reading};
 
 use crate::mark::Mark;
 use crate::reading::{Reading, TOKEN};
-use crate::steps::{Begin, End, LEASE_WORD, Lend};
+use crate::steps::{Begin, End, LEASE_WORD, Stand};
 use crate::view::View;
 use atomic_table::Seat;
 use std::alloc::{AllocError, Global};
@@ -86,29 +87,17 @@ impl Lease {
 }
 
 impl Busy {
-    /// A busy lease of a table of its own, with its one share and nothing else on it, for work that
-    /// is done one job at a time and needs no desk.
+    /// A busy lease of a table of its own, with its one share and nothing else on it: no token is held
+    /// and no other job runs. It is for work that is done one job at a time and needs no desk.
     pub fn alone(alloc: Global) -> Result<Busy, AllocError>
-        ensures { IfOk result (λ busy. (busy.alone ≡ true) × (busy.job ≡ None)) }
+        ensures { IfOk result (λ busy. (busy.alone ≡ true) × (busy.job ≡ None) × (busy.word ≡ reading 0 1)) }
     {
-        let (table, mut desk) = Mark::open(alloc)?;
-        let seat = table.shared().split_seat::<Lend>(&mut desk);
-        let lease = Lease {
-            table,
-            seat,
-            job: None,
-        };
-        let (busy, _) = lease.begin();
-        let Busy {
-            table,
-            seat,
-            job,
-            alone: _,
-        } = busy;
+        let (table, mut seat) = Mark::open(alloc)?;
+        table.shared().fetch_add::<Stand>(&mut seat, LEASE_WORD, 1);
         Ok(Busy {
             table,
             seat,
-            job,
+            job: None,
             alone: true,
         })
     }

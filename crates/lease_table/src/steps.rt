@@ -5,7 +5,7 @@
 //! that the split gives away. Nobody reads the name word.
 ghost use Rattle.lease_table.specs.Rule.{Ruled};
 ghost use Rattle.lease_table.specs.View.{opened};
-ghost use Rattle.lease_table.specs.Steps.{Took, Gave, Named, Began, Ended, Looked, desk_side, lease_side, both_sides};
+ghost use Rattle.lease_table.specs.Steps.{Took, Gave, Named, Began, Stood, Ended, Looked, desk_side, lease_side, both_sides};
 ghost use Rattle.lease_table.specs.declared.view.View.TheVariants.{Spent};
 
 use crate::view::View;
@@ -53,6 +53,13 @@ pub(crate) struct Begin;
 
 impl Play<(), View> for Begin {
     ghost then = { Began };
+}
+
+/// A fetch by which the seat of a new table, which has its one share, becomes a busy lease.
+pub(crate) struct Stand;
+
+impl Play<(), View> for Stand {
+    ghost then = { Stood };
 }
 
 /// A fetch that takes a busy lease from the lease word.

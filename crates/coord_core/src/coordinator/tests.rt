@@ -63,7 +63,7 @@ fn told_all(rt: &impl Abort, core: &mut Core, run: &[(Event, Actions)]) {
 
 #[test]
 fn no_units(rt: HostRuntime) -> Result<(), Fail> {
-    let (core, actions) = Core::new(rt.alloc(), 0, 8)?;
+    let (core, actions) = Core::new(rt.alloc(), 0, 8, false)?;
     assert_eq!(rt; actions, NOTHING);
     assert!(rt; core.finished());
     assert_eq!(rt; core.journal().len(), 0);
@@ -73,7 +73,7 @@ fn no_units(rt: HostRuntime) -> Result<(), Fail> {
 
 #[test]
 fn one_lane(rt: HostRuntime) -> Result<(), Fail> {
-    let (mut core, actions) = Core::new(rt.alloc(), 2, 1)?;
+    let (mut core, actions) = Core::new(rt.alloc(), 2, 1, false)?;
     assert_eq!(rt; actions, slot(Main::Generate(0)));
     assert!(rt; !core.is_awaited(&Event::Empty));
     let run = [
@@ -90,7 +90,7 @@ fn one_lane(rt: HostRuntime) -> Result<(), Fail> {
 
 #[test]
 fn one_token(rt: HostRuntime) -> Result<(), Fail> {
-    let (mut core, actions) = Core::new(rt.alloc(), 3, 2)?;
+    let (mut core, actions) = Core::new(rt.alloc(), 3, 2, false)?;
     assert_eq!(rt; actions, slot(Main::Generate(0)));
     let run = [
         (Event::Generated(0, 9), lend_and_ask(0)),
@@ -110,7 +110,7 @@ fn one_token(rt: HostRuntime) -> Result<(), Fail> {
 
 #[test]
 fn pool_cannot_be_read(rt: HostRuntime) -> Result<(), Fail> {
-    let (mut core, actions) = Core::new(rt.alloc(), 3, 2)?;
+    let (mut core, actions) = Core::new(rt.alloc(), 3, 2, false)?;
     assert_eq!(rt; actions, slot(Main::Generate(0)));
     let run = [
         (Event::Generated(0, 9), lend_and_ask(0)),
@@ -128,7 +128,7 @@ fn pool_cannot_be_read(rt: HostRuntime) -> Result<(), Fail> {
 
 #[test]
 fn no_memory_to_generate(rt: HostRuntime) -> Result<(), Fail> {
-    let (mut core, actions) = Core::new(rt.alloc(), 2, 1)?;
+    let (mut core, actions) = Core::new(rt.alloc(), 2, 1, false)?;
     assert_eq!(rt; actions, slot(Main::Generate(0)));
     told_all(&rt, &mut core, &[(Event::Wanted(0), NOTHING)]);
     assert!(rt; core.finished());
@@ -136,9 +136,37 @@ fn no_memory_to_generate(rt: HostRuntime) -> Result<(), Fail> {
     Ok(())
 }
 
+// A run of two units in one lane, the first of which is refused.
+fn refused_first(
+    rt: &impl Abort,
+    alloc: Global,
+    keep: bool,
+    run: &[(Event, Actions)],
+) -> Result<(), AllocError> {
+    let (mut core, actions) = Core::new(alloc, 2, 1, keep)?;
+    assert_eq!(rt; actions, slot(Main::Generate(0)));
+    told_all(rt, &mut core, run);
+    assert!(rt; core.finished());
+    assert_eq!(rt; core.first_failure(), Some(0));
+    Ok(())
+}
+
+#[test]
+fn a_refusal_ends_the_run_unless_it_keeps_going(rt: HostRuntime) -> Result<(), Fail> {
+    let ended = [(Event::GenFailed(0), NOTHING)];
+    let kept = [
+        (Event::GenFailed(0), slot(Main::Generate(1))),
+        (Event::Generated(1, 5), slot(Main::Lend(1))),
+        (Event::Made(1), NOTHING),
+    ];
+    refused_first(&rt, rt.alloc(), false, &ended)?;
+    refused_first(&rt, rt.alloc(), true, &kept)?;
+    Ok(())
+}
+
 #[test]
 fn a_lesser_unit_fails_later(rt: HostRuntime) -> Result<(), Fail> {
-    let (mut core, actions) = Core::new(rt.alloc(), 4, 2)?;
+    let (mut core, actions) = Core::new(rt.alloc(), 4, 2, false)?;
     assert_eq!(rt; actions, slot(Main::Generate(0)));
     let run = [
         (Event::Generated(0, 1), lend_and_ask(0)),

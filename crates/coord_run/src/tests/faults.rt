@@ -1,11 +1,16 @@
 //! Pools whose calls fail one after another, and units that are refused or find no memory.
+ghost use Rattle.std.specs.Prelude.{◌<◌};
+
 use super::table::{Lacks, Plan};
 use super::{Said, driven, driven_with, of};
 use crate::Driven;
 use crate::gate::FreeGate;
 use coord_core::Event;
-use std::sync::Arc;
+use std::alloc::Global;
+use std::process::Abort;
+use std::sync::{Arc, Wait};
 use std::test::*;
+use std::thread::Threads;
 use token_pool::FaultyPool;
 
 fn four() -> [Plan; 4] {
@@ -46,6 +51,7 @@ fn the_only_give_fails(rt: HostRuntime) -> Result<(), Fail> {
         &gate,
         &mut pool,
         2,
+        false,
     )?;
     assert_eq!(rt; driven.lost.as_slice(), b"b".as_slice());
     assert_eq!(rt; pool.owed(b'b'), 1);
@@ -65,6 +71,7 @@ fn each_call_of_a_pool_fails_once(rt: HostRuntime) -> Result<(), Fail> {
             &gate,
             &mut pool,
             3,
+            false,
         )?;
         for unit in 0..4usize {
             assert_eq!(rt; of(&driven, unit), Said::Byte(0x40 + unit as u8));
@@ -87,6 +94,30 @@ fn with(unit: usize, plan: Plan) -> [Plan; 4] {
     plans
 }
 
+// Runs the four units, of which this one is another, and shows what came of it and of those before.
+// Where the session keeps going after it, each unit behind it is made too.
+fn one_fails<R: Abort + Threads + Wait + Copy + Send + Sync + 'static>(
+    rt: &R,
+    alloc: Global,
+    unit: usize,
+    plan: Plan,
+    wanted: Said,
+    keep: bool,
+) -> Result<(), Fail>
+    requires { unit < 4 }
+{
+    let (driven, left) = driven_with(rt, alloc, &with(unit, plan), b"ab", 3, keep)?;
+    let goes_on = keep && wanted != Said::Wanted;
+    for other in 0..4usize {
+        if other < unit || (goes_on && other != unit) {
+            assert_eq!(rt; of(&driven, other), Said::Byte(0x40 + other as u8));
+        }
+    }
+    assert_eq!(rt; of(&driven, unit), wanted);
+    assert_eq!(rt; left.as_slice(), b"ab".as_slice());
+    Ok(())
+}
+
 #[test]
 fn each_unit_fails_once_in_each_way(rt: HostRuntime) -> Result<(), Fail> {
     let ways = [
@@ -97,12 +128,8 @@ fn each_unit_fails_once_in_each_way(rt: HostRuntime) -> Result<(), Fail> {
     ];
     for unit in 0..4usize {
         for (plan, wanted) in ways {
-            let (driven, left) = driven_with(&rt, rt.alloc(), &with(unit, plan), b"ab", 3)?;
-            for earlier in 0..unit {
-                assert_eq!(rt; of(&driven, earlier), Said::Byte(0x40 + earlier as u8));
-            }
-            assert_eq!(rt; of(&driven, unit), wanted);
-            assert_eq!(rt; left.as_slice(), b"ab".as_slice());
+            one_fails(&rt, rt.alloc(), unit, plan, wanted, false)?;
+            one_fails(&rt, rt.alloc(), unit, plan, wanted, true)?;
         }
     }
     Ok(())

@@ -69,7 +69,7 @@ fn five_jobs_are_out_at_once(rt: HostRuntime) -> Result<(), Fail> {
     let gate = Arc::new(rt.alloc(), Meeting::new(1_000_000_000))?;
     let mut pool = MemoryPool::new(&rt, rt.alloc(), b"abcd")?;
     let plans = five_plans(rt.alloc())?;
-    let driven = driven(&rt, rt.alloc(), plans, &gate, &mut pool, 5)?;
+    let driven = driven(&rt, rt.alloc(), plans, &gate, &mut pool, 5, false)?;
     assert!(rt; gate.met());
     for unit in 0..5usize {
         assert_eq!(rt; of(&driven, unit), Said::Byte(unit as u8));

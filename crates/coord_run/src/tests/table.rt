@@ -2,9 +2,8 @@
 ghost use Rattle.std.specs.Prelude.{◌≤◌, ◌∷◌, [], Ok, vec_len};
 ghost use Rattle.coord_run.specs.Meaning.{Answers};
 
-use crate::fault::WorkFault;
 use crate::work::Work;
-use lar_bytes::Bytes;
+use lar_bytes::{Bytes, OrMemory};
 use lease_table::{Busy, Mark};
 use std::alloc::Global;
 use std::sync::ledger::Ledger;
@@ -97,14 +96,14 @@ impl Work for Table {
         _alloc: Global,
         unit: u32,
         _busy: &mut Busy,
-    ) -> Result<(u32, u32), WorkFault<u8>> {
+    ) -> Result<(u32, u32), OrMemory<u8>> {
         let plan = self.plans[unit as usize];
         if plan.lacks == Lacks::Generating {
-            return Err(WorkFault::Memory);
+            return Err(OrMemory::Memory);
         }
         match plan.generated {
             Ok(generated) => Ok(generated),
-            Err(fault) => Err(WorkFault::Refused(fault)),
+            Err(fault) => Err(OrMemory::Refused(fault)),
         }
     }
 
@@ -115,25 +114,25 @@ impl Work for Table {
         _part: u32,
         _busy: &mut Busy,
         steps: &mut Steps<L>,
-    ) -> Result<Bytes, WorkFault<u8>> {
+    ) -> Result<Bytes, OrMemory<u8>> {
         steps.tick();
         let plan = self.plans[unit as usize];
         if plan.lacks == Lacks::Making {
-            return Err(WorkFault::Memory);
+            return Err(OrMemory::Memory);
         }
         match plan.made {
             Ok(byte) => one_byte(alloc, byte),
-            Err(fault) => Err(WorkFault::Refused(fault)),
+            Err(fault) => Err(OrMemory::Refused(fault)),
         }
     }
 }
 
-fn one_byte(alloc: Global, byte: u8) -> Result<Bytes, WorkFault<u8>>
+fn one_byte(alloc: Global, byte: u8) -> Result<Bytes, OrMemory<u8>>
     ensures { Answers (Ok (byte ∷ [])) result }
 {
     let mut bytes = Bytes::new(alloc);
     match bytes.push(byte) {
         Ok(()) => Ok(bytes),
-        Err(_) => Err(WorkFault::Memory),
+        Err(_) => Err(OrMemory::Memory),
     }
 }

@@ -184,18 +184,19 @@ fn compare(
     alloc: Global,
     units: u32,
     lanes: u8,
+    keep: bool,
     draw: &mut Draw,
 ) -> Result<(), AllocError> {
     assert!(rt; units <= 64 && 0 < lanes && lanes <= 64);
-    let (mut core, first) = Core::new(alloc, units, lanes)?;
-    let mut plain = Plain::new(alloc, units, lanes);
+    let (mut core, first) = Core::new(alloc, units, lanes, keep)?;
+    let mut plain = Plain::new(alloc, units, lanes, keep);
     let other = plain.next(None)?;
     assert!(rt; first == other && same(&core, &plain));
     run_both(rt, alloc, first, &mut core, &mut plain, draw)?;
     assert!(rt; core.finished() && plain.finished());
-    let bar = plain.bar();
-    let failure = if bar < units { Some(bar) } else { None };
-    assert!(rt; core.first_failure() == failure);
+    let failure = plain.failure();
+    let failure = if failure < units { Some(failure) } else { None };
+    assert!(rt; core.first_failure() == failure && plain.is_covered());
     Ok(())
 }
 
@@ -216,14 +217,14 @@ fn beside_the_plain_one(rt: HostRuntime) -> Result<(), Fail> {
         let lanes = draw.below(64) as u8 + 1;
         let few = draw.below(6) as u8 + 1;
         let lanes = if seed % 2 == 0 { lanes } else { few };
-        compare(&rt, rt.alloc(), units, lanes, &mut draw)?;
+        compare(&rt, rt.alloc(), units, lanes, seed % 3 == 0, &mut draw)?;
     }
     Ok(())
 }
 
 #[test]
 fn a_long_run(rt: HostRuntime) -> Result<(), Fail> {
-    let (mut core, mut actions) = Core::new(rt.alloc(), 65536, 64)?;
+    let (mut core, mut actions) = Core::new(rt.alloc(), 65536, 64, false)?;
     let mut draw = Draw {
         state: 1,
         failing: 0,

@@ -7,27 +7,38 @@ use crate::event::Main;
 pub struct Plain {
     pub units: u32,
     pub lanes: u8,
+    pub keep: bool,
     pub next: u32,
     pub generating: Option<u32>,
     pub queue: Vec<(u32, u32)>,
     pub running: Vec<(u32, Option<u8>)>,
-    pub failed: Vec<u32>,
+    pub made: Vec<u32>,
+    pub refused: Vec<u32>,
+    pub wanted: Vec<u32>,
     pub asks: bool,
     pub asking: bool,
     pub giving: Vec<u8>,
     pub spare: Option<u8>,
 }
 
+// The least of the units, and of this one.
+fn least(units: &[u32], most: u32) -> u32 {
+    units.iter().fold(most, |least, unit| least.min(*unit))
+}
+
 impl Plain {
-    pub fn new(alloc: Global, units: u32, lanes: u8) -> Plain {
+    pub fn new(alloc: Global, units: u32, lanes: u8, keep: bool) -> Plain {
         Plain {
             units,
             lanes,
+            keep,
             next: 0,
             generating: None,
             queue: Vec::new(alloc),
             running: Vec::new(alloc),
-            failed: Vec::new(alloc),
+            made: Vec::new(alloc),
+            refused: Vec::new(alloc),
+            wanted: Vec::new(alloc),
             asks: true,
             asking: false,
             giving: Vec::new(alloc),
@@ -36,14 +47,23 @@ impl Plain {
     }
 
     /// The least unit that failed, or the number of units.
+    pub fn failure(&self) -> u32 {
+        least(&self.refused, least(&self.wanted, self.units))
+    }
+
+    /// The least unit that ended the run early, or the number of units.
     pub fn bar(&self) -> u32 {
-        let mut bar = self.units;
-        for unit in &self.failed {
-            if *unit < bar {
-                bar = *unit;
-            }
+        if self.keep {
+            least(&self.wanted, self.units)
+        } else {
+            self.failure()
         }
-        bar
+    }
+
+    /// Whether each unit below the bar was made, or refused where the run keeps going.
+    pub fn is_covered(&self) -> bool {
+        (0..self.bar()).all(|unit| self.made.contains(&unit)
+            || (self.keep && self.refused.contains(&unit)))
     }
 
     pub fn finished(&self) -> bool {
@@ -53,11 +73,9 @@ impl Plain {
             && self.giving.is_empty()
     }
 
-    fn fail(&mut self, unit: u32) -> Result<(), AllocError> {
-        self.failed.push(unit)?;
+    fn drop_above(&mut self) {
         let bar = self.bar();
         self.queue.retain(|entry| entry.1 <= bar);
-        Ok(())
     }
 
     fn end(&mut self, unit: u32) {
@@ -86,7 +104,7 @@ impl Plain {
     }
 
     fn may_generate(&self) -> bool {
-        self.next < self.units && self.failed.is_empty()
+        self.next < self.units && self.bar() == self.units
     }
 
     fn take_head(&mut self) -> Option<u32> {
@@ -124,12 +142,15 @@ impl Plain {
             }
             Event::GenFailed(unit) => {
                 self.generating = None;
-                self.fail(unit)?;
+                self.refused.push(unit)?;
             }
-            Event::Made(unit) => self.end(unit),
+            Event::Made(unit) => {
+                self.end(unit);
+                self.made.push(unit)?;
+            }
             Event::MakeFailed(unit) => {
                 self.end(unit);
-                self.fail(unit)?;
+                self.refused.push(unit)?;
             }
             Event::Wanted(unit) => {
                 if self.generating == Some(unit) {
@@ -137,10 +158,11 @@ impl Plain {
                 } else {
                     self.end(unit);
                 }
-                self.fail(unit)?;
+                self.wanted.push(unit)?;
             }
             Event::Gave(byte) | Event::GiveFault(byte) => self.given(byte),
         }
+        self.drop_above();
         Ok(())
     }
 
@@ -204,12 +226,16 @@ impl Plain {
         paid.saturating_add(2) <= self.lanes as usize
     }
 
-    fn has_work(&self) -> bool {
+    fn token_has_work(&self) -> bool {
         !self.queue.is_empty() || (self.own().is_some() && self.may_generate())
     }
 
     fn ask(&mut self, told_none: bool) -> bool {
-        let ask = self.asks && !self.asking && !told_none && self.has_lane() && self.has_work();
+        let ask = self.asks
+            && !self.asking
+            && !told_none
+            && self.has_lane()
+            && self.token_has_work();
         if ask {
             self.asking = true;
         }

@@ -4,7 +4,7 @@ use Rattle.coord_core.specs.State.{is_gen, runs}
 use Rattle.coord_core.specs.Effect.{effect}
 use Rattle.coord_core.specs.Decide.{actions_of}
 use Rattle.coord_core.specs.Journal.{jobs_by}
-use Rattle.coord_run.specs.declared.fault.WorkFault.{WorkFault}
+use Rattle.lar_bytes.specs.declared.memory.OrMemory.{OrMemory}
 use Rattle.coord_run.specs.Meaning.{Meaning, Answers}
 use Rattle.coord_run.specs.Books.{BooksState, fed, state_of, settled}
 use Rattle.coord_run.proofs.EventLemmas.{may-collect, runs-at, or-last}
@@ -43,23 +43,23 @@ pub returns-in-Ok-clause-keeps : goal.returns-in-Ok-clause-keeps
 returns-in-Ok-clause-keeps g c start pool same tied =
     let e = Made c.receive-unit.result.unit in
     let books = c.settle.ensures ∙ ap (settled _ _) c.count.ensures in
-    let meant = subst (λ (a : Result (List ℕ) (WorkFault g.row.W-Fault.Denot)). Answers ((g.W.Work.meaning c.args.lanes.now.work).made c.receive-unit.result.unit) a) c.in-Ok.is c.receive-unit.ensures.answer in
+    let meant = subst (λ (a : Result (List ℕ) (OrMemory g.row.W-Fault.Denot)). Answers ((g.W.Work.meaning c.args.lanes.now.work).made c.receive-unit.result.unit) a) c.in-Ok.is c.receive-unit.ensures.answer in
     tied-as start _ _ _ _ _ _ pool _
     (c.next.ensures.state ∙ ap (fed e (Some c.receive-unit.result.reading)) books)
     (ap jobs_by (c.next.ensures.actions ∙ ap (λ (b : BooksState g.row.W-Part.Denot g.row.W-Fault.Denot). actions_of true (effect e (state_of b))) books))
     c.receive-unit.ensures.desk
-    (made-ties start _ c.receive-unit.result.unit c.receive-unit.result.makes c.args.desk.now.table c.receive-unit.result.reading _ pool _ _ tied c.receive-unit.ensures.out c.receive-unit.ensures.once c.receive-unit.ensures.waiting c.receive-unit.ensures.last (fallen-desk _ _ _ c.receive-unit.ensures.desk c.receive-unit.ensures.fall) _ (ap (λ (m : Meaning g.row.W-Part.Denot g.row.W-Fault.Denot). m.made c.receive-unit.result.unit) same ∙ meant))
+    (made-ties start _ c.receive-unit.result.unit c.receive-unit.result.makes c.args.desk.now.table c.receive-unit.result.reading _ pool _ _ tied c.receive-unit.ensures.out (c.requires.5, c.requires.4, c.requires.7) c.receive-unit.ensures.once c.receive-unit.ensures.waiting c.receive-unit.ensures.last (fallen-desk _ _ _ c.receive-unit.ensures.desk c.receive-unit.ensures.fall) _ (ap (λ (m : Meaning g.row.W-Part.Denot g.row.W-Fault.Denot). m.made c.receive-unit.result.unit) same ∙ meant))
 
 pub returns-in-Err-Refused-clause-keeps : goal.returns-in-Err-Refused-clause-keeps
 returns-in-Err-Refused-clause-keeps g c start pool same tied =
     let e = MakeFailed c.receive-unit.result.unit in
     let books = c.settle-in-Err-Refused.ensures ∙ ap (settled _ _) c.count.ensures in
-    let meant = subst (λ (a : Result (List ℕ) (WorkFault g.row.W-Fault.Denot)). Answers ((g.W.Work.meaning c.args.lanes.now.work).made c.receive-unit.result.unit) a) (c.in-Err-Refused.is ∙ ap Err c.in-Err-Refused.field-0-is) c.receive-unit.ensures.answer in
+    let meant = subst (λ (a : Result (List ℕ) (OrMemory g.row.W-Fault.Denot)). Answers ((g.W.Work.meaning c.args.lanes.now.work).made c.receive-unit.result.unit) a) (c.in-Err-Refused.is ∙ ap Err c.in-Err-Refused.field-0-is) c.receive-unit.ensures.answer in
     tied-as start _ _ _ _ _ _ pool _
     (c.next-in-Err-Refused.ensures.state ∙ ap (fed e (Some c.receive-unit.result.reading)) books)
     (ap jobs_by (c.next-in-Err-Refused.ensures.actions ∙ ap (λ (b : BooksState g.row.W-Part.Denot g.row.W-Fault.Denot). actions_of true (effect e (state_of b))) books))
     c.receive-unit.ensures.desk
-    (make_failed-ties start _ c.receive-unit.result.unit c.receive-unit.result.makes c.args.desk.now.table c.receive-unit.result.reading _ pool _ _ tied c.receive-unit.ensures.out c.receive-unit.ensures.once c.receive-unit.ensures.waiting c.receive-unit.ensures.last (fallen-desk _ _ _ c.receive-unit.ensures.desk c.receive-unit.ensures.fall) _ (ap (λ (m : Meaning g.row.W-Part.Denot g.row.W-Fault.Denot). m.made c.receive-unit.result.unit) same ∙ meant))
+    (make_failed-ties start _ c.receive-unit.result.unit c.receive-unit.result.makes c.args.desk.now.table c.receive-unit.result.reading _ pool _ _ tied c.receive-unit.ensures.out (c.requires.5, c.requires.4, c.requires.7) c.receive-unit.ensures.once c.receive-unit.ensures.waiting c.receive-unit.ensures.last (fallen-desk _ _ _ c.receive-unit.ensures.desk c.receive-unit.ensures.fall) _ (ap (λ (m : Meaning g.row.W-Part.Denot g.row.W-Fault.Denot). m.made c.receive-unit.result.unit) same ∙ meant))
 
 pub returns-in-Err-Memory-clause-keeps : goal.returns-in-Err-Memory-clause-keeps
 returns-in-Err-Memory-clause-keeps g c start pool same tied =
@@ -69,4 +69,4 @@ returns-in-Err-Memory-clause-keeps g c start pool same tied =
     (c.next-in-Err-Memory.ensures.state ∙ ap (fed e (Some c.receive-unit.result.reading)) books)
     (ap jobs_by (c.next-in-Err-Memory.ensures.actions ∙ ap (λ (b : BooksState g.row.W-Part.Denot g.row.W-Fault.Denot). actions_of true (effect e (state_of b))) books))
     c.receive-unit.ensures.desk
-    (make_wanted-ties start _ c.receive-unit.result.unit c.receive-unit.result.makes c.args.desk.now.table c.receive-unit.result.reading _ pool _ _ tied c.receive-unit.ensures.out c.receive-unit.ensures.once c.receive-unit.ensures.waiting c.receive-unit.ensures.last (fallen-desk _ _ _ c.receive-unit.ensures.desk c.receive-unit.ensures.fall) c.requires.4)
+    (make_wanted-ties start _ c.receive-unit.result.unit c.receive-unit.result.makes c.args.desk.now.table c.receive-unit.result.reading _ pool _ _ tied c.receive-unit.ensures.out (c.requires.5, c.requires.4, c.requires.7) c.receive-unit.ensures.once c.receive-unit.ensures.waiting c.receive-unit.ensures.last (fallen-desk _ _ _ c.receive-unit.ensures.desk c.receive-unit.ensures.fall))

@@ -3,7 +3,7 @@ use Rattle.coord_core.specs.declared.event.Event.TheVariants.{Generated, GenFail
 use Rattle.coord_core.specs.Effect.{effect}
 use Rattle.coord_core.specs.Decide.{actions_of}
 use Rattle.coord_core.specs.Journal.{jobs_by}
-use Rattle.coord_run.specs.declared.fault.WorkFault.{WorkFault}
+use Rattle.lar_bytes.specs.declared.memory.OrMemory.{OrMemory}
 use Rattle.coord_run.specs.Meaning.{Meaning, Answers}
 use Rattle.coord_run.specs.Books.{BooksState, fed, state_of}
 use Rattle.coord_run.proofs.EventLemmas.{may-generate}
@@ -32,22 +32,22 @@ settle-requires-in-Err-Memory g c = let r = c.requires in let m = (may-generate 
 pub returns-in-Ok : goal.returns-in-Ok
 returns-in-Ok g c start pool waiting same tied =
     let e = Generated c.args.unit c.in-Ok.cost in
-    let meant : (g.W.Work.meaning c.args.work.now).generated c.args.unit ≡ Ok (c.in-Ok.part, c.in-Ok.cost) = subst (λ (a : Result (g.row.W-Part.Denot × ℕ) (WorkFault g.row.W-Fault.Denot)). Answers ((g.W.Work.meaning c.args.work.now).generated c.args.unit) a) c.in-Ok.is c.generate_under-answer.ensures.answer in
+    let meant : (g.W.Work.meaning c.args.work.now).generated c.args.unit ≡ Ok (c.in-Ok.part, c.in-Ok.cost) = subst (λ (a : Result (g.row.W-Part.Denot × ℕ) (OrMemory g.row.W-Fault.Denot)). Answers ((g.W.Work.meaning c.args.work.now).generated c.args.unit) a) c.in-Ok.is c.generate_under-answer.ensures.answer in
     tied-as start _ _ _ _ _ _ pool waiting
     (c.next.ensures.state ∙ ap (fed e (Some c.generate_under-answer.result.0)) c.keep_part.ensures)
     (ap jobs_by (c.next.ensures.actions ∙ ap (λ (b : BooksState g.row.W-Part.Denot g.row.W-Fault.Denot). actions_of true (effect e (state_of b))) c.keep_part.ensures))
     c.generate_under-answer.ensures.desk
-    (generated-ties start _ c.args.unit c.args.desk.now.table c.generate_under-answer.result.0 _ pool waiting tied c.requires.5 c.generate_under-answer.ensures.last (fallen-desk _ _ _ c.generate_under-answer.ensures.desk c.generate_under-answer.ensures.fall) c.in-Ok.cost c.in-Ok.part (ap (λ (m : Meaning g.row.W-Part.Denot g.row.W-Fault.Denot). m.generated c.args.unit) same ∙ meant))
+    (generated-ties start _ c.args.unit c.args.desk.now.table c.generate_under-answer.result.0 _ pool waiting tied c.requires.5 (c.requires.6, c.requires.7) c.generate_under-answer.ensures.last (fallen-desk _ _ _ c.generate_under-answer.ensures.desk c.generate_under-answer.ensures.fall) c.in-Ok.cost c.in-Ok.part (ap (λ (m : Meaning g.row.W-Part.Denot g.row.W-Fault.Denot). m.generated c.args.unit) same ∙ meant))
 
 pub returns-in-Err-Refused : goal.returns-in-Err-Refused
 returns-in-Err-Refused g c start pool waiting same tied =
     let e = GenFailed c.args.unit in
-    let meant = subst (λ (a : Result (g.row.W-Part.Denot × ℕ) (WorkFault g.row.W-Fault.Denot)). Answers ((g.W.Work.meaning c.args.work.now).generated c.args.unit) a) (c.in-Err-Refused.is ∙ ap Err c.in-Err-Refused.field-0-is) c.generate_under-answer.ensures.answer in
+    let meant = subst (λ (a : Result (g.row.W-Part.Denot × ℕ) (OrMemory g.row.W-Fault.Denot)). Answers ((g.W.Work.meaning c.args.work.now).generated c.args.unit) a) (c.in-Err-Refused.is ∙ ap Err c.in-Err-Refused.field-0-is) c.generate_under-answer.ensures.answer in
     tied-as start _ _ _ _ _ _ pool waiting
     (c.next-in-Err-Refused.ensures.state ∙ ap (fed e (Some c.generate_under-answer.result.0)) c.settle.ensures)
     (ap jobs_by (c.next-in-Err-Refused.ensures.actions ∙ ap (λ (b : BooksState g.row.W-Part.Denot g.row.W-Fault.Denot). actions_of true (effect e (state_of b))) c.settle.ensures))
     c.generate_under-answer.ensures.desk
-    (gen_failed-ties start _ c.args.unit c.args.desk.now.table c.generate_under-answer.result.0 _ pool waiting tied c.requires.5 c.generate_under-answer.ensures.last (fallen-desk _ _ _ c.generate_under-answer.ensures.desk c.generate_under-answer.ensures.fall) c.in-Err-Refused.fault (ap (λ (m : Meaning g.row.W-Part.Denot g.row.W-Fault.Denot). m.generated c.args.unit) same ∙ meant))
+    (gen_failed-ties start _ c.args.unit c.args.desk.now.table c.generate_under-answer.result.0 _ pool waiting tied c.requires.5 (c.requires.6, c.requires.7) c.generate_under-answer.ensures.last (fallen-desk _ _ _ c.generate_under-answer.ensures.desk c.generate_under-answer.ensures.fall) c.in-Err-Refused.fault (ap (λ (m : Meaning g.row.W-Part.Denot g.row.W-Fault.Denot). m.generated c.args.unit) same ∙ meant))
 
 pub returns-in-Err-Memory : goal.returns-in-Err-Memory
 returns-in-Err-Memory g c start pool waiting same tied =
@@ -56,4 +56,4 @@ returns-in-Err-Memory g c start pool waiting same tied =
     (c.next-in-Err-Memory.ensures.state ∙ ap (fed e (Some c.generate_under-answer.result.0)) c.settle-in-Err-Memory.ensures)
     (ap jobs_by (c.next-in-Err-Memory.ensures.actions ∙ ap (λ (b : BooksState g.row.W-Part.Denot g.row.W-Fault.Denot). actions_of true (effect e (state_of b))) c.settle-in-Err-Memory.ensures))
     c.generate_under-answer.ensures.desk
-    (gen_wanted-ties start _ c.args.unit c.args.desk.now.table c.generate_under-answer.result.0 _ pool waiting tied c.requires.5 c.generate_under-answer.ensures.last (fallen-desk _ _ _ c.generate_under-answer.ensures.desk c.generate_under-answer.ensures.fall))
+    (gen_wanted-ties start _ c.args.unit c.args.desk.now.table c.generate_under-answer.result.0 _ pool waiting tied c.requires.5 (c.requires.6, c.requires.7) c.generate_under-answer.ensures.last (fallen-desk _ _ _ c.generate_under-answer.ensures.desk c.generate_under-answer.ensures.fall))

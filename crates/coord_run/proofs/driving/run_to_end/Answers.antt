@@ -1,15 +1,12 @@
 use Rattle.std.proofs.Common.{sym, ap, ◌∙◌, refl}
-use Rattle.coord_run.proofs.driving.run.Goals as goal
+use Rattle.coord_run.proofs.driving.run_to_end.Goals as goal
 
 pub follow-requires-after_bounds : goal.follow-requires-after_bounds
-follow-requires-after_bounds g c κs bounds = let e = c.requires.ready in (e.0, _, e.1 ∙ ap g.W.Work.meaning (sym c.loop.invariant.work), c.loop.invariant.keeps e.0 e.1 e.2)
-
-pub step-actions-requires-clause-work : goal.step-actions-requires-clause-work
-step-actions-requires-clause-work g c κs bounds = c.follow.ensures.work ∙ c.loop.invariant.work ∙ c.requires.work
+follow-requires-after_bounds g c κs bounds = let e = c.requires in (e.0, _, e.1 ∙ ap g.W.Work.meaning (sym c.loop.invariant.work), c.loop.invariant.keeps e.0 e.1 e.2)
 
 pub step-actions-requires-clause-ready : goal.step-actions-requires-clause-ready
 step-actions-requires-clause-ready g c κs bounds =
-    let e = c.requires.ready in
+    let e = c.requires in
     let same = e.1 ∙ ap g.W.Work.meaning (sym c.loop.invariant.work) in
     (e.0, same ∙ ap g.W.Work.meaning (sym c.follow.ensures.work), c.follow.ensures.keeps e.0 _ same (c.loop.invariant.keeps e.0 e.1 e.2))
 

@@ -2,7 +2,7 @@ use Rattle.std.proofs.Common.{ap, refl, subst, ◌∙◌, arith}
 use Rattle.coord_run.specs.Meaning.{Meaning}
 use Rattle.coord_run.specs.Tied.{HasPart}
 use Rattle.coord_run.proofs.DispatchLemmas.{may-dispatch, dispatched-ties, tied-as, tied-job}
-use Rattle.coord_run.proofs.starting.start.Goals as goal
+use Rattle.coord_run.proofs.starting.dispatch_if_any.Goals as goal
 
 pub dispatch-requires-clause-share : goal.dispatch-requires-clause-share
 dispatch-requires-clause-share g c κs bounds = let r = c.requires in (may-dispatch r.0 _ _ _ _ _ _ (tied-job r.0 _ _ _ r.2 _ _ _ c.in-Some.is r.4)).0
