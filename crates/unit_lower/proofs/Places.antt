@@ -45,7 +45,7 @@ narrow_width s (call k es) h = low_width (width s (call k es)) (or_parts (is_ove
 pub narrow_total : (s : Scope) (es : PlainExprs) → is_over (total_width s es) ≡ false → cut (total_width s es) ≡ total_width s es
 narrow_total s es h = let low : total_width s es ≤ 255 = low_width (total_width s es) h in omega (arith, low)
 
-is_moved : (offset slot : ℕ) (at : Option ℕ) → moved offset at ≡ Some slot → (from : ℕ) × (at ≡ Some from) × (slot ≡ from + offset)
+pub is_moved : (offset slot : ℕ) (at : Option ℕ) → moved offset at ≡ Some slot → (from : ℕ) × (at ≡ Some from) × (slot ≡ from + offset)
 is_moved offset slot None h = cc
 is_moved offset slot (Some from) h = (from, refl, cc)
 

@@ -13,7 +13,8 @@ use Rattle.unit_ir.specs.declared.fault.UnitFault.{UnitFault}
 use Rattle.unit_ir.specs.Units.{PlainFn, PlainUnit, IsSymbol, IsFn, callee_count, IsUnit}
 use Rattle.unit_lower.specs.Slots.{local_slots}
 use Rattle.unit_lower.specs.Lowering.{lower_stmts}
-use Rattle.unit_lower.specs.Assertions.{Failure, assertions, first_failure}
+use Rattle.unit_lower.specs.declared.assertions.Failure.{Failure}
+use Rattle.unit_lower.specs.Assertions.{assertions, first_failure}
 use Rattle.unit_lower.specs.Wide.{is_over, are_wide_stmts}
 use Rattle.unit_lower.specs.LoweredUnit.{lowered_body, is_too_wide, with_width, failure_of, lowered_fn, named, first_fault, or_unit, lowered}
 use Rattle.unit_lower.proofs.Nexts.{stmts_next_up}

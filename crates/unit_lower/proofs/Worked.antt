@@ -12,7 +12,8 @@ use Rattle.unit_ir.specs.declared.operator.Binary.TheVariants as ir_binary
 use Rattle.unit_ir.specs.Exprs.{PlainExpr, word, load, op1, op2, both, either, call, seq, bind, PlainExprs, no_exprs, exprs}
 use Rattle.unit_ir.specs.Stmts.{PlainStmts, store, fork, loop, give, print, eval, no_stmts, stmts}
 use Rattle.unit_lower.specs.Lowering.{Lowered, lower, lower_stmts}
-use Rattle.unit_lower.specs.Assertions.{Failure, value}
+use Rattle.unit_lower.specs.declared.assertions.Failure.{Failure}
+use Rattle.unit_lower.specs.Assertions.{value}
 use Rattle.unit_lower.specs.LoweredUnit.{failure_of, lowered}
 
 -- ---- the unit of `b::go`, which prints what its copy of `main::inc` gives for 2

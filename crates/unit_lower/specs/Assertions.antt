@@ -1,14 +1,14 @@
 -- What the assertions of a body come to.
 use Rattle.std.specs.Prelude.{ℕ, suc, ℤ, pos, Option, Some, None, List, [], ◌∷◌, ◌++◌, if◌then◌else◌}
 use Rattle.std.specs.Ordering.{int_eq}
-use Rattle.unit_input.specs.declared.expr.BinaryOp.{BinaryOp}
-use Rattle.unit_input.specs.declared.expr.BinaryOp.TheVariants as binary_op
 use Rattle.unit_input.specs.Exprs.{PlainExpr, int, truth, local, field, tuple, unary, binary, call}
 use Rattle.unit_input.specs.Stmts.{PlainStmt, declare, assign, fork, loop, give, print, assert, eval, PlainStmts, no_stmts, stmts}
 use Rattle.unit_ir.specs.declared.operator.Binary.{Binary}
-use Rattle.unit_ir.specs.declared.operator.Binary.TheVariants as ir_binary
 use Rattle.unit_ir.specs.Operators as operators
-use Rattle.unit_lower.specs.Lowering.{unary_of}
+use Rattle.unit_lower.specs.declared.assertions.Failure.{Failure}
+use Rattle.unit_lower.specs.declared.operator.Operator.{Operator}
+use Rattle.unit_lower.specs.declared.operator.Operator.TheVariants as operator
+use Rattle.unit_lower.specs.Lowering.{unary_of, operator_of}
 
 -- an operator on the values of its sides; none where one of them traps, or it does itself
 abbrev pub operated : Binary → Option ℤ → Option ℤ → Option ℤ
@@ -24,20 +24,10 @@ abbrev pub either_of : Option ℤ → Option ℤ → Option ℤ
 either_of None b = None
 either_of (Some a) b = if int_eq a (pos 0) then b else Some (pos 1)
 
-abbrev pub combined : BinaryOp → Option ℤ → Option ℤ → Option ℤ
-combined binary_op.Add a b = operated ir_binary.Add a b
-combined binary_op.Sub a b = operated ir_binary.Sub a b
-combined binary_op.Mul a b = operated ir_binary.Mul a b
-combined binary_op.Div a b = operated ir_binary.Div a b
-combined binary_op.Rem a b = operated ir_binary.Rem a b
-combined binary_op.Equal a b = operated ir_binary.Equal a b
-combined binary_op.NotEqual a b = operated ir_binary.NotEqual a b
-combined binary_op.Less a b = operated ir_binary.Less a b
-combined binary_op.AtMost a b = operated ir_binary.AtMost a b
-combined binary_op.Greater a b = operated ir_binary.Greater a b
-combined binary_op.AtLeast a b = operated ir_binary.AtLeast a b
-combined binary_op.And a b = both_of a b
-combined binary_op.Or a b = either_of a b
+abbrev pub combined : Operator → Option ℤ → Option ℤ → Option ℤ
+combined (operator.OnWords o) a b = operated o a b
+combined operator.And a b = both_of a b
+combined operator.Or a b = either_of a b
 
 abbrev pub applied : (ℤ → ℤ) → Option ℤ → Option ℤ
 applied f None = None
@@ -48,7 +38,7 @@ abbrev pub value : PlainExpr → Option ℤ
 value (int v) = Some v
 value (truth b) = Some (operators.truth b)
 value (unary op e) = applied (operators.unary_of (unary_of op)) (value e)
-value (binary op a b) = combined op (value a) (value b)
+value (binary op a b) = combined (operator_of op) (value a) (value b)
 value e = None
 
 -- the expressions of the assertions, in reading order
@@ -66,11 +56,6 @@ abbrev mutual
   pub assertions : PlainStmts → List PlainExpr
   assertions no_stmts = []
   assertions (stmts x xs) = stmt_assertions x ++ assertions xs
-
--- why an assertion fails, with its number
-pub record Failure : Type 0 where
-  pub code : ℕ
-  pub number : ℕ
 
 -- 31 where it traps, 30 where it is false, and else what the later ones come to
 abbrev pub judged : ℕ → Option ℤ → Option Failure → Option Failure

@@ -2,5 +2,9 @@ pub mod Assertions
 pub mod Callees
 pub mod LoweredUnit
 pub mod Lowering
+pub mod ScopeView
 pub mod Slots
+pub mod StmtResult
+pub mod UnitResult
+pub mod ValueView
 pub mod Wide

@@ -7,7 +7,8 @@ use Rattle.unit_ir.specs.Stmts.{PlainStmts}
 use Rattle.unit_ir.specs.Units.{PlainFn, PlainUnit}
 use Rattle.unit_lower.specs.Slots.{local_slots}
 use Rattle.unit_lower.specs.Lowering.{Lowered, lower_stmts}
-use Rattle.unit_lower.specs.Assertions.{Failure, assertions, first_failure}
+use Rattle.unit_lower.specs.declared.assertions.Failure.{Failure}
+use Rattle.unit_lower.specs.Assertions.{assertions, first_failure}
 use Rattle.unit_lower.specs.Wide.{is_over, are_wide_stmts}
 
 -- a function's body, and how many slots the function has
@@ -26,15 +27,19 @@ with_width too_wide None = if too_wide then Some (record { code = 32; number = 0
 abbrev pub failure_of : Scope → input.PlainFn → Option Failure
 failure_of s f = with_width (is_too_wide s f) (first_failure 0 (assertions f.body))
 
-abbrev pub lowered_fn : input.PlainInput → input.PlainFn → PlainFn
-lowered_fn x f = record {
+-- a function that has no fault
+abbrev pub lowered_in : Scope → input.PlainFn → PlainFn
+lowered_in s f = record {
   symbol = f.symbol;
   external = f.external;
   params = params_width f;
   «result» = f.«result»;
-  slots = (lowered_body (scope_of x f) f).next;
-  body = (lowered_body (scope_of x f) f).made;
+  slots = (lowered_body s f).next;
+  body = (lowered_body s f).made;
 }
+
+abbrev pub lowered_fn : input.PlainInput → input.PlainFn → PlainFn
+lowered_fn x f = lowered_in (scope_of x f) f
 
 -- as the fault of the function with this number, or else what the later ones come to
 abbrev pub named : ℕ → Option Failure → Option UnitFault → Option UnitFault

@@ -12,6 +12,8 @@ use Rattle.unit_ir.specs.declared.operator.Unary.{Unary}
 use Rattle.unit_ir.specs.declared.operator.Unary.TheVariants as ir_unary
 use Rattle.unit_ir.specs.declared.operator.Binary.TheVariants as ir_binary
 use Rattle.unit_ir.specs.Operators as operators
+use Rattle.unit_lower.specs.declared.operator.Operator.{Operator}
+use Rattle.unit_lower.specs.declared.operator.Operator.TheVariants as operator
 use Rattle.unit_ir.specs.Exprs.{PlainExpr, word, load, op1, op2, both, either, call, seq, bind, PlainExprs, no_exprs, exprs}
 use Rattle.unit_ir.specs.Stmts.{PlainStmt, store, fork, loop, give, print, eval, PlainStmts, no_stmts, stmts}
 use Rattle.unit_lower.specs.Slots.{first_slot, place}
@@ -39,20 +41,29 @@ abbrev pub unary_of : UnaryOp → Unary
 unary_of unary_op.Neg = ir_unary.Neg
 unary_of unary_op.Not = ir_unary.Not
 
+-- what an operator on two words becomes
+abbrev pub operator_of : BinaryOp → Operator
+operator_of binary_op.Add = operator.OnWords ir_binary.Add
+operator_of binary_op.Sub = operator.OnWords ir_binary.Sub
+operator_of binary_op.Mul = operator.OnWords ir_binary.Mul
+operator_of binary_op.Div = operator.OnWords ir_binary.Div
+operator_of binary_op.Rem = operator.OnWords ir_binary.Rem
+operator_of binary_op.Equal = operator.OnWords ir_binary.Equal
+operator_of binary_op.NotEqual = operator.OnWords ir_binary.NotEqual
+operator_of binary_op.Less = operator.OnWords ir_binary.Less
+operator_of binary_op.AtMost = operator.OnWords ir_binary.AtMost
+operator_of binary_op.Greater = operator.OnWords ir_binary.Greater
+operator_of binary_op.AtLeast = operator.OnWords ir_binary.AtLeast
+operator_of binary_op.And = operator.And
+operator_of binary_op.Or = operator.Or
+
+abbrev pub operated : Operator → PlainExpr → PlainExpr → PlainExpr
+operated (operator.OnWords o) a b = op2 o a b
+operated operator.And a b = both a b
+operated operator.Or a b = either a b
+
 abbrev pub binary_of : BinaryOp → PlainExpr → PlainExpr → PlainExpr
-binary_of binary_op.Add a b = op2 ir_binary.Add a b
-binary_of binary_op.Sub a b = op2 ir_binary.Sub a b
-binary_of binary_op.Mul a b = op2 ir_binary.Mul a b
-binary_of binary_op.Div a b = op2 ir_binary.Div a b
-binary_of binary_op.Rem a b = op2 ir_binary.Rem a b
-binary_of binary_op.Equal a b = op2 ir_binary.Equal a b
-binary_of binary_op.NotEqual a b = op2 ir_binary.NotEqual a b
-binary_of binary_op.Less a b = op2 ir_binary.Less a b
-binary_of binary_op.AtMost a b = op2 ir_binary.AtMost a b
-binary_of binary_op.Greater a b = op2 ir_binary.Greater a b
-binary_of binary_op.AtLeast a b = op2 ir_binary.AtLeast a b
-binary_of binary_op.And a b = both a b
-binary_of binary_op.Or a b = either a b
+binary_of op a b = operated (operator_of op) a b
 
 -- a value that lies in no slots is put into fresh ones, whole, and the words of its part are loaded from there
 abbrev pub bound_part : ℕ → ℕ → ℕ → Lowered PlainExpr → Lowered PlainExpr
