@@ -1,10 +1,9 @@
-pub mod Answering
-pub mod CodeLines
-pub mod Counting
-pub mod Endings
+pub mod Causes
+pub mod Following
 pub mod Gathering
-pub mod LinkEndings
-pub mod Places
 pub mod PrintsLinked
+pub mod Running
 pub mod Sent
-pub mod WholeFiles
+pub mod Top
+pub mod Wide
+pub mod Writing

@@ -1,5 +1,5 @@
 -- What a status says.
-use Rattle.std.specs.Prelude.{ℕ, List, [], ◌++◌, codes}
+use Rattle.std.specs.Prelude.{ℕ, List, [], ◌++◌, codes, Result, Ok, Err}
 use Rattle.std.specs.Fmt.{decimal}
 use Rattle.object_format.specs.Words.{word_of}
 use Rattle.stack_vm.specs.declared.end.Kind.{Kind}
@@ -8,6 +8,11 @@ use Rattle.symbol_link.specs.declared.fault.LinkFault.{LinkFault as Fault}
 use Rattle.symbol_link.specs.declared.fault.LinkFault.TheVariants as faults
 use Rattle.larch_cli.specs.declared.status.Status.{Status}
 use Rattle.larch_cli.specs.declared.status.Status.TheVariants.{Done, Usage, Absent, FileFault, SinkFault, Memory, BadFile, Trapped, OutOfSteps, LinkFault, Unsupported}
+
+-- A command that ran to its end is done.
+abbrev pub status_of : Result (Unit {0}) Status → Status
+status_of (Ok x) = Done
+status_of (Err status) = status
 
 -- the number with which the process ends
 abbrev pub number_of : Status → ℕ

@@ -1,59 +1,55 @@
--- The steps of a command, each by how it may end the command.
+-- The functions of the program, by the scripts that they follow.
+use Rattle.std.specs.Prelude.{◌≡◌, ℕ, ℤ, List, Result, Ok, Err}
 use Rattle.std.specs.declared.alloc.Global.{Global}
 use Rattle.std.specs.declared.vec.Vec.{Vec}
-use Rattle.std.specs.Prelude.{ℕ, ◌≡◌, ◌⊎◌, List, None, Result, Ok, Err, IfSome, IsSome, ℤ}
-use Rattle.std.specs.FinMap.{get}
-use Rattle.outside.specs.Counts.{Rose}
-use Rattle.outside.specs.Fronts.{AppendsFront}
-use Rattle.outside.specs.Held.{StoresFront, stored}
-use Rattle.larch_cli.specs.FilesState.{FilesState, after_write, with_faults, holding}
-use Rattle.stack_vm.specs.SinkState.{SinkState, with_text}
-use Rattle.larch_cli.specs.Words.{source_name}
-use Rattle.larch_cli.specs.Build.{AreNumbersIn, ReadFails, after_reading, numbers_in}
+use Rattle.files.specs.FilesState.{FilesState}
+use Rattle.listings.specs.Listed.{text_of}
+use Rattle.listings.specs.declared.listed.Listed.{Listed}
 use Rattle.object_format.specs.Image.{Linked}
+use Rattle.object_format.specs.Object.{Unlinked}
+use Rattle.object_format.specs.declared.fault.BadFile.{BadFile}
+use Rattle.scripts.specs.Following.{Follows}
+use Rattle.scripts.specs.Outside.{Outside, seen}
+use Rattle.sinks.specs.SinkState.{SinkState}
 use Rattle.stack_vm.specs.Valid.{Validated}
-use Rattle.stack_vm.specs.declared.end.End.{End}
-use Rattle.stack_vm.specs.declared.end.End.TheVariants as end
+use Rattle.larch_cli.specs.Commands.{Steps, reasons}
 use Rattle.larch_cli.specs.declared.status.Status.{Status}
-use Rattle.larch_cli.specs.declared.status.Status.TheVariants.{Done, Absent, FileFault, SinkFault, Memory, Trapped, OutOfSteps, Unsupported}
+use Rattle.larch_cli.specs.declared.status.Status.TheVariants as status
 
--- A command that ran to its end is done.
-abbrev pub status_of : {T : Type 0} → Result T Status → Status
-status_of (Ok x) = Done
-status_of (Err status) = status
+-- The script calls nothing.
+abbrev pub Idly : {A : Type 0} → Steps A → Result A Status → Type 0
+Idly script result = (o : Outside) → Follows reasons script o o result
 
--- reading the source
-abbrev pub SourceEnds : FilesState → FilesState → Result (Vec ℤ Global) Status → Type 0
-SourceEnds files now (Ok numbers) = AreNumbersIn files.held numbers.items × (now ≡ after_reading files)
-SourceEnds files now (Err (Absent name)) = (name ≡ source_name) × IfSome files.held (λ held. get held source_name ≡ None) × (now ≡ after_reading files)
-SourceEnds files now (Err (FileFault name)) = (name ≡ source_name) × ReadFails files now
-SourceEnds files now (Err Unsupported) = IfSome files.held (λ held. IsSome (get held source_name) × (numbers_in held ≡ None)) × (now ≡ after_reading files)
-SourceEnds files now (Err Memory) = (now ≡ files) ⊎ (now ≡ after_reading files)
-SourceEnds files now (Err status) = ⊥
+-- It calls files alone.
+abbrev pub OnFiles : {A : Type 0} → Steps A → FilesState → FilesState → Result A Status → Type 0
+OnFiles script old new result = (out err : SinkState) → Follows reasons script (seen old out err) (seen new out err) result
 
--- writing a file
-abbrev pub WriteEnds : {T : Type 0} → FilesState → FilesState → List ℕ → List ℕ → Result T Status → Type 0
-WriteEnds files now name bytes (Ok x) = now ≡ holding (stored name bytes files.held) (after_write files)
-WriteEnds files now name bytes (Err (FileFault other)) = (other ≡ name) × StoresFront name bytes files.held now.held × Rose files.faults now.faults × (now ≡ with_faults now.faults (holding now.held (after_write files)))
-WriteEnds files now name bytes (Err Memory) = (now ≡ files) ⊎ (now ≡ after_write files)
-WriteEnds files now name bytes (Err status) = ⊥
+-- It calls the output stream alone.
+abbrev pub OnOut : {A : Type 0} → Steps A → SinkState → SinkState → Result A Status → Type 0
+OnOut script old new result = (files : FilesState) (err : SinkState) → Follows reasons script (seen files old err) (seen files new err) result
 
--- putting text
-abbrev pub PutEnds : {T : Type 0} → SinkState → SinkState → List ℕ → Result T Status → Type 0
-PutEnds out now text (Ok x) = now ≡ with_text text out
-PutEnds out now text (Err SinkFault) = Rose out.faults now.faults × AppendsFront out.held now.held text
-PutEnds out now text (Err Memory) = (now.faults ≡ out.faults) × AppendsFront out.held now.held text
-PutEnds out now text (Err status) = ⊥
+-- It calls both.
+abbrev pub OnBoth : {A : Type 0} → Steps A → FilesState → FilesState → SinkState → SinkState → Result A Status → Type 0
+OnBoth script files files_now out out_now result = (err : SinkState) → Follows reasons script (seen files out err) (seen files_now out_now err) result
 
--- the image of what was loaded
-abbrev pub image_of_valid : Result Validated Status → Result Linked Status
-image_of_valid (Ok valid) = Ok valid.image
-image_of_valid (Err status) = Err status
+-- what is given, wherever it lies in memory
+abbrev pub numbers_shown : Result (Vec ℤ Global) Status → Result (List ℤ) Status
+numbers_shown (Ok numbers) = Ok numbers.items
+numbers_shown (Err s) = Err s
 
--- the status for how a run ends
-abbrev pub EndEnds : End → Status → Type 0
-EndEnds end.Ended status = status ≡ Done
-EndEnds (end.Trapped kind function offset) status = status ≡ Trapped kind function offset
-EndEnds end.OutOfSteps status = status ≡ OutOfSteps
-EndEnds end.WriteFault status = status ≡ SinkFault
-EndEnds end.Memory status = status ≡ Memory
+abbrev pub objects_shown : Result (Vec Unlinked Global) Status → Result (List Unlinked) Status
+objects_shown (Ok objects) = Ok objects.items
+objects_shown (Err s) = Err s
+
+abbrev pub image_shown : Result Validated Status → Result Linked Status
+image_shown (Ok valid) = Ok valid.image
+image_shown (Err s) = Err s
+
+abbrev pub text_shown : Result Listed Status → Result (List ℕ) Status
+text_shown (Ok x) = Ok (text_of x)
+text_shown (Err s) = Err s
+
+-- the refusal of a file, where there is memory for its name
+abbrev pub IsBadFile : List ℕ → BadFile → Status → Type 0
+IsBadFile name fault status.Memory = Unit {0}
+IsBadFile name fault answer = answer ≡ status.BadFile name fault

@@ -1,5 +1,6 @@
 use super::*;
-use stack_vm::MemorySink;
+use files::{Files, MemoryFiles};
+use sinks::MemorySink;
 use std::alloc::{AllocError, Global};
 use std::process::Abort;
 use std::test::Fail;
@@ -81,7 +82,7 @@ pub(crate) fn play(
     }
     let mut out = MemorySink::new(alloc, failing_puts)?;
     let mut err = MemorySink::new(alloc, &[])?;
-    let status = larch_plain(alloc, &owned, &mut files, &mut out, &mut err);
+    let status = larch_plain(alloc, &owned, None, &mut files, &mut out, &mut err);
     let image = match files.held("a.lrpx") {
         Some(bytes) => Some(bytes.to_vec(alloc)?),
         None => None,

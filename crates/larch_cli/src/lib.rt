@@ -1,36 +1,34 @@
-//! The command line of the compiler: words, statuses, reports and commands, over files and streams that are handed in.
+//! The command line of the compiler: statuses, reports and commands, over files and streams that are handed in.
 //!
-//! [`larch_plain`] serves a command line. Its contract says of every status when it comes and what it leaves of the files and on
-//! the streams, whatever these are and whichever of their calls fail; and where none fails it is a function of the words
-//! and the files. Each command is a row of steps, and a step answers a value or the status that ends the command, so the order
-//! of refusals is the order of the steps.
+//! A command is one script (`specs/Commands`): which files it reads and writes and which texts it puts, in order, and
+//! what it makes of the answers. [`larch_plain`] serves a command line, and its contract is that its calls and their
+//! answers are the script's, whatever these objects are and whichever of their calls fail; that the script's status is
+//! then reported; and that it ends early where memory is wanted or a put fails. What a user wants to know besides is a
+//! clause of its own that follows from that by a law over every script: the answer where nothing fails, which call's
+//! failure a status tells of, that a refusal leaves the files as they were.
 //!
-//! It stands on lar_lexer for the sources, object_format, symbol_link and stack_vm for objects and images, and outside for what
-//! the world is to a contract.
-#![tactic(auto)]
+//! The code of a command is a row of steps, each with a script of its own, and a step answers a value or the status
+//! that ends the command; so `?` stands where the script has `>>=`.
+//!
+//! The crate stands on words for command lines, on files, sinks and scripts for what commands work on, on lar_lexer for
+//! sources, on object_format, listings, symbol_link and stack_vm for objects and images, on source_gen for sources that
+//! are generated, and on make_flags for what make says.
+#![tactic(auto, using(crate::proofs::Following::following))]
 
 mod build;
 mod dump;
-mod files;
-mod folder_files;
+mod generate;
 mod image;
-mod line;
 mod link;
-mod listing;
 mod loading;
-mod memory_files;
-mod names;
 mod plain;
 mod reporting;
 mod run;
+mod sending;
 mod status;
 mod steps;
-mod words;
 
-pub use files::{Files, Read, Wrote};
-pub use folder_files::FolderFiles;
 pub use image::image_of_prints;
-pub use memory_files::MemoryFiles;
 pub use plain::larch_plain;
 pub use reporting::report;
 pub use status::Status;

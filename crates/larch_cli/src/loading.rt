@@ -1,42 +1,27 @@
-//! Files of bytes that commands read: each once and to one byte past its limit, so that a file that is too long is seen to be so. The
-//! bytes are let go as soon as they are decoded.
+//! What the bytes of a file spell. Files are read to one byte past their limit, so that one that is too long is seen to
+//! be so. The bytes are let go as soon as they are decoded.
 
 ghost use Rattle.std.specs.Prelude.{◌≡◌, ◌⊎◌, Ok, Result, IfOk};
 ghost use Rattle.lar_bytes.specs.Answers.{Answers};
+ghost use Rattle.listings.specs.Listed.{listing_at, text_of};
 ghost use Rattle.object_format.specs.Image.{version_field};
 ghost use Rattle.object_format.specs.ObjectReading.{object_at};
 ghost use Rattle.object_format.specs.Reading.{image_at};
-ghost use Rattle.larch_cli.specs.Dump.{listing_at, text_of, text_of_listed};
-ghost use Rattle.larch_cli.specs.Loading.{IsBadFile, LoadEnds, ReadEnds, limited};
-ghost use Rattle.larch_cli.specs.Run.{valid_image};
-ghost use Rattle.larch_cli.specs.Steps.{image_of_valid};
+ghost use Rattle.larch_cli.specs.Commands.{judged};
+ghost use Rattle.larch_cli.specs.Spelled.{limited, valid_image};
+ghost use Rattle.larch_cli.specs.Steps.{Idly, IsBadFile, image_shown, text_shown};
 
-use crate::dump::Listed;
-use crate::{Files, Read, Status};
+use crate::Status;
 use lar_bytes::{Bytes, OrMemory, Text};
+use listings::{Listed, read_listed};
 use object_format::{BadFile, Image, Object, What, image_version, read_image, read_object};
 use stack_vm::{Valid, validate};
 use std::alloc::Global;
 
 const MOST_OF_FILE: u64 = 67_108_864;
 
-// Reads the file with this name.
-pub(crate) fn read_file<F: Files>(
-    alloc: Global,
-    files: &mut F,
-    name: &Text,
-) -> Result<Bytes, Status>
-    ensures { ReadEnds name.now (F.told files.old) (F.told files.new) result }
-{
-    let text = name.as_str();
-    let named = Text::copied(alloc, text)?;
-    match files.read(alloc, text, MOST_OF_FILE + 1) {
-        Ok(Read::Bytes(bytes)) => Ok(bytes),
-        Ok(Read::Absent) => Err(Status::Absent(named)),
-        Ok(Read::Failed) => Err(Status::FileFault(named)),
-        Err(_) => Err(Status::Memory),
-    }
-}
+/// So many bytes are asked for.
+pub(crate) const MOST_ASKED: u64 = MOST_OF_FILE + 1;
 
 // Whether a file is not too long.
 fn within_limit(bytes: &Bytes) -> Result<(), OrMemory<BadFile>>
@@ -74,11 +59,7 @@ fn listed_of(alloc: Global, bytes: Bytes) -> Result<Listed, OrMemory<BadFile>>
     ensures { Answers text_of result (limited listing_at bytes) }
 {
     within_limit(&bytes)?;
-    if bytes.as_slice().starts_with(b"LROB") {
-        Ok(Listed::Object(read_object(alloc, bytes.as_slice())?))
-    } else {
-        Ok(Listed::Image(read_image(alloc, bytes.as_slice())?))
-    }
+    read_listed(alloc, bytes.as_slice())
 }
 
 // The refusal of a file, or want of memory for its name.
@@ -99,11 +80,10 @@ pub(crate) fn object_of(alloc: Global, bytes: Bytes) -> Result<Object, OrMemory<
     read_object(alloc, bytes.as_slice())
 }
 
-/// Reads the image with this name and validates it.
-pub(crate) fn load<F: Files>(alloc: Global, files: &mut F, name: &Text) -> Result<Valid, Status>
-    ensures { LoadEnds valid_image name.now (F.told files.old) (F.told files.new) (image_of_valid result) }
+/// The valid image that the bytes of a file spell.
+pub(crate) fn judge_image(alloc: Global, name: &Text, bytes: Bytes) -> Result<Valid, Status>
+    ensures { Idly (judged name.now (limited valid_image bytes)) (image_shown result) }
 {
-    let bytes = read_file(alloc, files, name)?;
     match valid_image_of(alloc, bytes) {
         Ok(valid) => Ok(valid),
         Err(OrMemory::Refused(fault)) => Err(bad_file(alloc, name, fault)),
@@ -111,15 +91,10 @@ pub(crate) fn load<F: Files>(alloc: Global, files: &mut F, name: &Text) -> Resul
     }
 }
 
-/// Reads the object or image with this name.
-pub(crate) fn load_listed<F: Files>(
-    alloc: Global,
-    files: &mut F,
-    name: &Text,
-) -> Result<Listed, Status>
-    ensures { LoadEnds listing_at name.now (F.told files.old) (F.told files.new) (text_of_listed result) }
+/// The object or image that the bytes of a file spell.
+pub(crate) fn judge_listed(alloc: Global, name: &Text, bytes: Bytes) -> Result<Listed, Status>
+    ensures { Idly (judged name.now (limited listing_at bytes)) (text_shown result) }
 {
-    let bytes = read_file(alloc, files, name)?;
     match listed_of(alloc, bytes) {
         Ok(listed) => Ok(listed),
         Err(OrMemory::Refused(fault)) => Err(bad_file(alloc, name, fault)),

@@ -1,18 +1,23 @@
-//! The command that runs an image. All that can be refused is refused before the first step: the image is read, validated and given
-//! its memory, and from then on only the program's own end, its steps and its sink decide.
+//! The command that runs an image. All that can be refused is refused before the first step: the image is read,
+//! validated and given its memory, and from then on only the program's own end, its steps and its sink decide.
 
-ghost use Rattle.larch_cli.specs.Run.{RunEnds};
-ghost use Rattle.larch_cli.specs.Steps.{status_of, EndEnds};
+ghost use Rattle.std.specs.Prelude.{◌≡◌, true};
+ghost use Rattle.stack_vm.specs.Acts.{runs_of};
+ghost use Rattle.larch_cli.specs.Commands.{end_gives, printed, run_script};
+ghost use Rattle.larch_cli.specs.Steps.{OnBoth, OnOut};
 
-use crate::loading::load;
-use crate::{Files, Status};
+use crate::Status;
+use crate::loading::{MOST_ASKED, judge_image};
+use crate::steps::read_file;
+use files::Files;
 use lar_bytes::Text;
-use stack_vm::{End, Sink, run};
+use sinks::Sink;
+use stack_vm::{End, Valid, run};
 use std::alloc::Global;
 
 // How the command ends where the machine ends so.
 fn status_of_end(end: End) -> Result<(), Status>
-    ensures { EndEnds end (status_of result) }
+    ensures { result ≡ end_gives end }
 {
     match end {
         End::Ended => Ok(()),
@@ -27,6 +32,19 @@ fn status_of_end(end: End) -> Result<(), Status>
     }
 }
 
+fn print_run<S: Sink>(
+    alloc: Global,
+    valid: &mut Valid,
+    steps: u64,
+    out: &mut S,
+) -> Result<(), Status>
+    requires { valid.old.reserved ≡ true }
+    ensures { OnOut (printed (runs_of valid.old.image steps)) (S.told out.old) (S.told out.new) result }
+{
+    let end = run(alloc, valid, steps, out);
+    status_of_end(end)
+}
+
 /// Runs the image with this name for at most so many steps. What it prints goes to `out` while it runs.
 pub(crate) fn run_image<F: Files, S: Sink>(
     alloc: Global,
@@ -35,10 +53,10 @@ pub(crate) fn run_image<F: Files, S: Sink>(
     files: &mut F,
     out: &mut S,
 ) -> Result<(), Status>
-    ensures { RunEnds name.now steps (F.told files.old) (F.told files.new) (S.told out.old) (S.told out.new) (status_of result) }
+    ensures { OnBoth (run_script name.now steps) (F.told files.old) (F.told files.new) (S.told out.old) (S.told out.new) result }
 {
-    let mut valid = load(alloc, files, name)?;
+    let bytes = read_file(alloc, files, name.as_str(), MOST_ASKED)?;
+    let mut valid = judge_image(alloc, name, bytes)?;
     valid.reserve(alloc)?;
-    let end = run(alloc, &mut valid, steps, out);
-    status_of_end(end)
+    print_run(alloc, &mut valid, steps, out)
 }

@@ -1,7 +1,8 @@
 use super::*;
+use files::MemoryFiles;
 use lar_bytes::{Bytes, Text};
 use lar_tree::File;
-use stack_vm::MemorySink;
+use sinks::MemorySink;
 use std::alloc::{AllocError, Global};
 use std::test::Fail;
 
@@ -46,7 +47,7 @@ fn run(
     let mut files = MemoryFiles::new(alloc, &[image], files)?;
     let mut out = MemorySink::new(alloc, out)?;
     let mut err = MemorySink::new(alloc, &[])?;
-    let status = larch_plain(alloc, &owned, &mut files, &mut out, &mut err);
+    let status = larch_plain(alloc, &owned, None, &mut files, &mut out, &mut err);
     Ok(Left {
         number: status.number(),
         out: out.bytes().to_vec(alloc)?,

@@ -1,7 +1,8 @@
 use super::*;
+use files::MemoryFiles;
 use lar_bytes::{Bytes, Text};
 use lar_tree::File;
-use stack_vm::{MemorySink, Put, Sink};
+use sinks::{MemorySink, Put, Sink};
 use std::alloc::{AllocError, Global};
 use std::process::Abort;
 use std::test::Fail;
@@ -90,7 +91,7 @@ fn run(
     let mut files = files_with(alloc, source, failing.files)?;
     let mut out = MemorySink::new(alloc, failing.out)?;
     let mut err = MemorySink::new(alloc, failing.err)?;
-    let status = larch_plain(alloc, &words, &mut files, &mut out, &mut err);
+    let status = larch_plain(alloc, &words, None, &mut files, &mut out, &mut err);
     let image = match files.held("a.lrpx") {
         Some(bytes) => Some(bytes.to_vec(alloc)?),
         None => None,
@@ -210,22 +211,19 @@ fn a_stream_that_fails_decides(rt: HostRuntime) -> Result<(), Fail> {
 // A sink that takes one byte of each piece.
 #[derive(Drop)]
 struct Narrow {
-    bytes: Vec<u8>,
+    sink: MemorySink,
 }
 
 impl Sink for Narrow {
-    ghost use Rattle.std.specs.Prelude.{Some};
+    ghost use Rattle.sinks.specs.MemorySinkState.{sink_told};
 
-    ghost told = { λ sink. record { held = Some sink.bytes.items; faults = 0 } };
+    ghost told = { λ narrow. sink_told narrow.sink };
 
-    fn put(&mut self, _alloc: Global, piece: &[u8]) -> Put {
+    fn put(&mut self, alloc: Global, piece: &[u8]) -> Put {
         if piece.is_empty() {
-            return Put::Took(0);
+            return self.sink.put(alloc, piece);
         }
-        match self.bytes.push(piece[0]) {
-            Ok(()) => Put::Took(1),
-            Err(_) => Put::Memory,
-        }
+        self.sink.put(alloc, &piece[..1])
     }
 }
 
@@ -235,20 +233,17 @@ fn a_line_is_put_byte_by_byte(rt: HostRuntime) -> Result<(), Fail> {
     let words = owned(alloc, &BUILD)?;
     let mut files = files_with(alloc, Some(PRINTS_7), &[])?;
     let mut out = Narrow {
-        bytes: Vec::new(alloc),
+        sink: MemorySink::new(alloc, &[])?,
     };
     let mut err = Narrow {
-        bytes: Vec::new(alloc),
+        sink: MemorySink::new(alloc, &[])?,
     };
-    let status = larch_plain(alloc, &words, &mut files, &mut out, &mut err);
+    let status = larch_plain(alloc, &words, None, &mut files, &mut out, &mut err);
     assert_eq!(rt; status.number(), 0);
-    assert_eq!(rt;
-        out.bytes.as_slice(),
-        b"units 1 made 1 reused 0\n".as_slice()
-    );
-    let status = larch_plain(alloc, &[], &mut files, &mut out, &mut err);
+    assert_eq!(rt; out.sink.bytes(), b"units 1 made 1 reused 0\n".as_slice());
+    let status = larch_plain(alloc, &[], None, &mut files, &mut out, &mut err);
     assert_eq!(rt; status.number(), 2);
-    assert_eq!(rt; err.bytes.as_slice(), b"larchc: usage\n".as_slice());
+    assert_eq!(rt; err.sink.bytes(), b"larchc: usage\n".as_slice());
     Ok(())
 }
 
@@ -273,33 +268,39 @@ fn a_source_has_a_limit(rt: HostRuntime) -> Result<(), Fail> {
     Ok(())
 }
 
-// The first bytes of a file of the current folder, or how it could not be read.
-fn front_of<F: Files>(alloc: Global, files: &mut F, name: &str) -> Result<Vec<u8>, AllocError> {
-    match files.read(alloc, name, 3)? {
-        Read::Bytes(bytes) => Ok(bytes.into_vec()),
-        Read::Absent => b"absent".to_vec(alloc),
-        Read::Failed => b"failed".to_vec(alloc),
+#[test]
+fn sources_are_generated(rt: HostRuntime) -> Result<(), Fail> {
+    let alloc = rt.alloc();
+    let words = owned(alloc, &["gen", "1", "1"])?;
+    let begin = b"const C: i64 = 39;\n".as_slice();
+    // Which call on the files fails, what the call answers, whether the module is there then.
+    let cases: [(&[u64], u8, &str, bool); 3] = [
+        (&[], 0, "wrote 2 files\n", true),
+        (&[0], 4, "", false),
+        (&[1], 4, "", false),
+    ];
+    for (failing, number, text, there) in cases {
+        let mut files = files_with(alloc, None, failing)?;
+        let mut out = MemorySink::new(alloc, &[])?;
+        let mut err = MemorySink::new(alloc, &[])?;
+        let status = larch_plain(alloc, &words, None, &mut files, &mut out, &mut err);
+        assert_eq!(rt; status.number(), number);
+        assert_eq!(rt; out.bytes(), text.as_bytes());
+        let module = files.held("m0.larch");
+        assert_eq!(rt; module.is_some_and(|bytes| bytes.starts_with(begin)), there);
     }
+    Ok(())
 }
 
 #[test]
-fn a_folder_gives_back_what_was_written(rt: HostRuntime) -> Result<(), Fail> {
+fn a_dry_run_does_nothing(rt: HostRuntime) -> Result<(), Fail> {
     let alloc = rt.alloc();
-    let mut files = FolderFiles::new(rt);
-    for bytes in [b"abc".as_slice(), b"de".as_slice(), b"fghi".as_slice()] {
-        assert_eq!(rt; files.write(alloc, "larch_cli.test", bytes), Wrote::Done);
-        let held = front_of(alloc, &mut files, "larch_cli.test")?;
-        assert_eq!(rt; held.as_slice(), &bytes[..bytes.len().min(3)]);
-    }
-    let cases = [
-        (".larch_cli.test.part", "absent"),
-        ("larch_cli.none", "absent"),
-        (".", "failed"),
-    ];
-    for (name, wanted) in cases {
-        let read = front_of(alloc, &mut files, name)?;
-        assert_eq!(rt; read.as_slice(), wanted.as_bytes(), "at {name}");
-    }
-    assert_eq!(rt; files.write(alloc, ".", b""), Wrote::Failed);
+    let words = owned(alloc, &BUILD)?;
+    let mut files = files_with(alloc, None, &[0])?;
+    let mut out = MemorySink::new(alloc, &[0])?;
+    let mut err = MemorySink::new(alloc, &[0])?;
+    let dry = Some("kn --jobserver-auth=3,4");
+    let status = larch_plain(alloc, &words, dry, &mut files, &mut out, &mut err);
+    assert_eq!(rt; status.number(), 0);
     Ok(())
 }

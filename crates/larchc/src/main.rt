@@ -1,12 +1,15 @@
-//! The program: it makes the real files and streams, hands them to the top call with the words, and ends with the status.
+//! The program: it makes the real files and streams, hands them to the top call with the words and with what
+//! make says, and ends with the status.
 //!
-//! Everything that it promises is the contract of `larch_plain`. It stands on larch_cli alone.
+//! Everything that it promises is the contract of `larch_plain`. It stands on larch_cli for
+//! that, and on files and sinks for the real files and streams.
 #![tactic(auto)]
 
-use larch_cli::{FolderFiles, Status, larch_plain, report};
-use stack_vm::StdSink;
+use files::FolderFiles;
+use larch_cli::{Status, larch_plain, report};
+use sinks::StdSink;
 use std::alloc::AllocError;
-use std::env;
+use std::env::{self, VarError};
 use std::io::ErrorKind;
 use std::process::ExitCode;
 
@@ -24,14 +27,33 @@ fn words(rt: &HostRuntime) -> Result<Vec<String>, AllocError> {
     Ok(words)
 }
 
-fn main(rt: HostRuntime) -> ExitCode {
-    let alloc = rt.alloc();
-    let mut files = FolderFiles::new(rt);
+// The text of `MAKEFLAGS`. One that is no text counts as absent.
+fn makeflags(rt: &HostRuntime) -> Result<Option<String>, AllocError> {
+    match env::var(rt, "MAKEFLAGS") {
+        Ok(text) => Ok(Some(text)),
+        Err(VarError::OutOfMemory) => Err(AllocError),
+        Err(_) => Ok(None),
+    }
+}
+
+// The command line with the real files, out and err.
+fn serve(rt: &HostRuntime, err: &mut StdSink) -> Result<Status, AllocError> {
+    let words = words(rt)?;
+    let makeflags = makeflags(rt)?;
+    let text = match &makeflags {
+        Some(text) => Some(text.as_str()),
+        None => None,
+    };
+    let mut files = FolderFiles::new(*rt);
     let mut out = StdSink::out(rt.stdout());
+    Ok(larch_plain(rt.alloc(), &words, text, &mut files, &mut out, err))
+}
+
+fn main(rt: HostRuntime) -> ExitCode {
     let mut err = StdSink::err(rt.stderr());
-    let status = match words(&rt) {
-        Ok(words) => larch_plain(alloc, &words, &mut files, &mut out, &mut err),
-        Err(_) => report(alloc, &mut err, Status::Memory),
+    let status = match serve(&rt, &mut err) {
+        Ok(status) => status,
+        Err(_) => report(rt.alloc(), &mut err, Status::Memory),
     };
     ExitCode::from(status.number())
 }

@@ -1,5 +1,5 @@
 -- One more instruction that may bring another height.
-use Rattle.std.proofs.Common.{◌≡◌, ℕ, ◌+◌, List, [], ◌∷◌, ◌++◌, Bool, true, false, ◌||◌, refl, ◌∙◌, ap}
+use Rattle.std.proofs.Common.{◌≡◌, ℕ, List, [], ◌∷◌, ◌++◌, Bool, true, false, ◌||◌, refl, ◌∙◌, ap}
 use Rattle.object_format.specs.Image.{LinkedFn}
 use Rattle.stack_vm.specs.Heights.{left_by, jumps_to, first_at}
 use Rattle.stack_vm.specs.Faults.{brings_other, is_crossed, height_at}

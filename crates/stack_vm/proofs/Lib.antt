@@ -18,5 +18,4 @@ pub mod Starting
 pub mod Stays
 pub mod Stops
 pub mod Swept
-pub mod Texts
 pub mod Turns

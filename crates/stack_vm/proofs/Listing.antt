@@ -1,9 +1,9 @@
 -- The operations of code, one after the other.
-use Rattle.std.proofs.Common.{◌≡◌, ℕ, zero, suc, ◌+◌, ◌-◌, ◌<◌, ◌≤◌, List, [], ◌∷◌, ◌++◌, length, take, drop, Option, Some, None, ltb, refl, sym, ap, ◌∙◌, arith, subst, inl, inr}
+use Rattle.std.proofs.Common.{◌≡◌, ℕ, ◌+◌, ◌<◌, ◌≤◌, List, [], ◌∷◌, ◌++◌, length, take, drop, Option, Some, None, ltb, refl, sym, ap, ◌∙◌, arith, inl, inr}
 use Rattle.std.specs.Prelude.{slice_index}
 use Rattle.std.proofs.lemmas.Bool.{ltb-false, cases_Bool}
 use Rattle.std.proofs.lemmas.List.{length-drop, drop-drop, drop_more}
-use Rattle.object_format.specs.Code.{Instruction, operand_of, begun_by, pieces_after}
+use Rattle.object_format.specs.Code.{operand_of, begun_by, pieces_after}
 use Rattle.object_format.specs.Opcode.{row, opcode_of}
 use Rattle.object_format.specs.Reading.{pieces_fault, piece_fault}
 use Rattle.object_format.specs.declared.opcode.Opcode.{Opcode}

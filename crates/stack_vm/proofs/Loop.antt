@@ -1,18 +1,16 @@
 -- One turn of a run, from the stack to the functions at work.
 use Rattle.std.proofs.Common.{◌≡◌, ℕ, suc, ◌+◌, ◌-◌, ◌≤◌, List, [], ◌∷◌, ◌++◌, length, take, drop, reverse, replicate, slice_get, ℤ, pos, false, Option, Some, None, refl, arith, sym, ◌∙◌, ap, subst, append_assoc, append-nil, length-drop}
-use Rattle.std.specs.Prelude.{IfSome}
-use Rattle.std.specs.Io.KnownBytes.{append_known}
 use Rattle.std.proofs.lemmas.List.{length-take, take-take, take-append-le, reverse-append}
 use Rattle.object_format.specs.Image.{LinkedFn}
-use Rattle.outside.specs.Counts.{Rose}
-use Rattle.outside.specs.Fronts.{AppendsFront}
+use Rattle.sinks.specs.Prefixes.{TakesPrefix}
+use Rattle.sinks.specs.SinkState.{SinkState, with_text}
+use Rattle.sinks.proofs.Texts.{prefix_later, prefix_longer, with_text-append}
 use Rattle.stack_vm.specs.Operation.{operation_at}
 use Rattle.stack_vm.specs.Effect.{under, is_print, Did}
 use Rattle.stack_vm.specs.Sound.{IsFine}
 use Rattle.stack_vm.specs.Standing.{height, Stands, Called, TooDeep, waiting, resumed}
-use Rattle.stack_vm.specs.SinkState.{SinkState, with_text}
 use Rattle.stack_vm.specs.Acts.{Act, Outcome, Goes, Ends, Traps, step, turn, runs, prints, line_of, calling, Ran, after_text}
-use Rattle.stack_vm.specs.Running.{act, acts, seen, slots_count, Counted, FrontIf}
+use Rattle.stack_vm.specs.Running.{act, acts, seen, slots_count, Counted, PrefixIf}
 use Rattle.stack_vm.specs.declared.end.Kind.{Kind}
 use Rattle.stack_vm.specs.declared.end.Kind.TheVariants as kinds
 use Rattle.stack_vm.specs.declared.end.End.{End}
@@ -29,7 +27,6 @@ use Rattle.stack_vm.proofs.Moves.{moves, fine_room}
 use Rattle.stack_vm.proofs.Stays.{stays}
 use Rattle.stack_vm.proofs.Stops.{after_front, too_deep}
 use Rattle.stack_vm.proofs.Turns.{calls, returns, counted_is}
-use Rattle.stack_vm.proofs.Texts.{append_known-append, append_known-nil}
 
 -- ---- texts
 
@@ -40,9 +37,6 @@ after_text-nil (Some r) = refl
 pub after_text-append : (a b : List ℕ) (r : Option Ran) → after_text a (after_text b r) ≡ after_text (a ++ b) r
 after_text-append a b None = refl
 after_text-append a b (Some r) = ap (λ (t : List ℕ). Some (record { how = r.how; text = t })) (sym (append_assoc a b r.text))
-
-with_text-append : (s : SinkState) (a b : List ℕ) → with_text b (with_text a s) ≡ with_text (a ++ b) s
-with_text-append s a b = ap (λ held. record s { held = held }) (append_known-append s.held a b)
 
 -- the run so far: what was put, what is kept, and that the rest makes the whole
 pub record Going (fs : List LinkedFn) (f0 : LinkedFn) (s0 : State) (frames0 : List Frame) (V0 : List ℤ) (steps : ℕ) (f : LinkedFn) (s : State) (frames : List Frame) (V : List ℤ) (left : ℕ) (old new : SinkState) (kept : List ℕ) : Type 0 where
@@ -86,31 +80,16 @@ pub ends_here : (fs : List LinkedFn) (f0 : LinkedFn) (s0 : State) (frames0 : Lis
 ends_here fs f0 s0 frames0 V0 steps f s frames V left old new kept how g e =
     (g.put, sym g.whole ∙ ap (after_text (g.put ++ kept)) e ∙ ap (λ (t : List ℕ). Some (record { how = how; text = t })) (append-nil (g.put ++ kept)), g.told)
 
--- a front that was appended to what was put before
-appends_more : (held now : Option (List ℕ)) (a b : List ℕ) → now ≡ append_known (append_known held a) b → now ≡ append_known held (a ++ b)
-appends_more held now a b h = h ∙ append_known-append held a b
-
-front_if : (r : Option Ran) (held now : Option (List ℕ)) (put before : List ℕ) → AppendsFront (append_known held put) now before → IfSome (after_text (put ++ before) r) (λ ran. AppendsFront held now ran.text)
-front_if None held now put before a = tt
-front_if (Some r) held now put before a = record {
-  front = put ++ a.front;
-  rest = a.rest ++ r.text;
-  splits = append_assoc put a.front (a.rest ++ r.text) ∙ ap (λ (x : List ℕ). put ++ x) (sym (append_assoc a.front a.rest r.text) ∙ ap (λ (x : List ℕ). x ++ r.text) a.splits) ∙ sym (append_assoc put before r.text);
-  appends = appends_more held now put a.front a.appends;
-}
+prefix_if : (r : Option Ran) (then : SinkState → SinkState) (old new : SinkState) (put before : List ℕ) → TakesPrefix (with_text put old) before then new → PrefixIf (after_text (put ++ before) r) then old new
+prefix_if None then old new put before p = tt
+prefix_if (Some r) then old new put before p = prefix_longer old new (put ++ before) r.text then (prefix_later old (with_text put old) new put before then refl p)
 
 -- a put that did not take all of what was kept
-pub front_of : (fs : List LinkedFn) (f0 : LinkedFn) (s0 : State) (frames0 : List Frame) (V0 : List ℤ) (steps : ℕ) (f : LinkedFn) (s : State) (frames : List Frame) (V : List ℤ) (left : ℕ) (old new newer : SinkState) (kept : List ℕ)
-    → Going fs f0 s0 frames0 V0 steps f s frames V left old new kept → AppendsFront new.held newer.held kept → FrontIf (runs fs steps (acts fs f0 s0 frames0 V0)) old newer
-front_of fs f0 s0 frames0 V0 steps f s frames V left old new newer kept g a =
-    let front : AppendsFront (append_known old.held g.put) newer.held kept = subst (λ (n : SinkState). AppendsFront n.held newer.held kept) g.told a in
-    subst (λ (w : Option Ran). IfSome w (λ ran. AppendsFront old.held newer.held ran.text)) g.whole (front_if (runs fs left (acts fs f s frames V)) old.held newer.held g.put kept front)
-
-pub rose_since : (old new newer : SinkState) (put : List ℕ) → new ≡ with_text put old → Rose new.faults newer.faults → Rose old.faults newer.faults
-rose_since old new newer put told rose = subst (λ (n : SinkState). Rose n.faults newer.faults) told rose
-
-pub faults_since : (old new newer : SinkState) (put : List ℕ) → new ≡ with_text put old → newer.faults ≡ new.faults → newer.faults ≡ old.faults
-faults_since old new newer put told same = same ∙ ap (λ (n : SinkState). n.faults) told
+pub prefix_of : (fs : List LinkedFn) (f0 : LinkedFn) (s0 : State) (frames0 : List Frame) (V0 : List ℤ) (steps : ℕ) (f : LinkedFn) (s : State) (frames : List Frame) (V : List ℤ) (left : ℕ) (then : SinkState → SinkState) (old new newer : SinkState) (kept : List ℕ)
+    → Going fs f0 s0 frames0 V0 steps f s frames V left old new kept → TakesPrefix new kept then newer → PrefixIf (runs fs steps (acts fs f0 s0 frames0 V0)) then old newer
+prefix_of fs f0 s0 frames0 V0 steps f s frames V left then old new newer kept g p =
+    let part : TakesPrefix (with_text g.put old) kept then newer = subst (λ (n : SinkState). TakesPrefix n kept then newer) g.told p in
+    subst (λ (w : Option Ran). PrefixIf w then old newer) g.whole (prefix_if (runs fs left (acts fs f s frames V)) then old newer g.put kept part)
 
 -- ---- steps
 
@@ -228,6 +207,3 @@ waits_room fs words frames more b base left h w split there =
     let on_top : Waits fs words (b ∷ reverse more) base left = subst (λ (gs : List Frame). Waits fs words gs base left) order w in
     let same : on_top.0 ≡ h = the_same (slice_get fs b.number) on_top.0 h on_top.1 there in
     subst (λ (g : LinkedFn). b.base + g.slots ≤ base) same on_top.6
-
-pub with_text-nil : (s : SinkState) → s ≡ with_text [] s
-with_text-nil s = ap (λ held. record s { held = held }) (sym (append_known-nil s.held))

@@ -1,5 +1,5 @@
 -- Measuring heights, one instruction after the other.
-use Rattle.std.proofs.Common.{◌≡◌, ℕ, ◌+◌, ◌<◌, ◌≤◌, List, [], ◌∷◌, ◌++◌, Option, Some, None, refl, arith, ◌∙◌, ap, unwrap_or}
+use Rattle.std.proofs.Common.{◌≡◌, ℕ, ◌<◌, ◌≤◌, List, [], ◌∷◌, ◌++◌, Option, Some, None, refl, arith, ◌∙◌, ap, unwrap_or}
 use Rattle.std.specs.Prelude.{max}
 use Rattle.object_format.specs.Image.{LinkedFn}
 use Rattle.stack_vm.specs.Heights.{first_at, as_number, Shows, Before, here, next, reached, heights, greatest}

@@ -1,5 +1,5 @@
 -- Heights by offset, as a list of numbers shows them.
-use Rattle.std.proofs.Common.{◌≡◌, ◌≢◌, ℕ, ◌+◌, ◌-◌, ◌<◌, ◌≤◌, List, [], ◌∷◌, ◌++◌, length, slice_index, slice_set, Option, Some, None, Bool, true, false, refl, arith, eqb, if◌then◌else◌, get_or-set_other, get_or-set_same, length-set, inl, inr, sym, ◌∙◌, ap}
+use Rattle.std.proofs.Common.{◌≡◌, ◌≢◌, ℕ, ◌<◌, ◌≤◌, List, [], ◌∷◌, ◌++◌, length, slice_index, slice_set, Option, Some, None, Bool, true, false, refl, arith, eqb, if◌then◌else◌, get_or-set_other, get_or-set_same, length-set, inl, inr, sym, ◌∙◌, ap}
 use Rattle.std.proofs.lemmas.Bool.{cases_eq}
 use Rattle.std.proofs.lemmas.Bool.Decides.{nat_tests}
 use Rattle.stack_vm.specs.Heights.{first_at, as_number, Shows}

@@ -1,30 +1,28 @@
 -- A valid image is sound, and its run begins as the machine's does; and how the last text is put.
-use Rattle.std.proofs.Common.{◌≡◌, ◌≢◌, ℕ, zero, suc, ◌+◌, ◌-◌, ◌<◌, ◌≤◌, List, [], ◌∷◌, ◌++◌, length, take, drop, replicate, slice_get, ℤ, pos, Option, Some, None, refl, arith, ◌∙◌, ap, subst, append_assoc}
+use Rattle.std.proofs.Common.{◌≡◌, ◌≢◌, ℕ, zero, suc, ◌+◌, ◌<◌, ◌≤◌, List, [], ◌∷◌, ◌++◌, length, take, drop, replicate, slice_get, ℤ, pos, Option, Some, None, refl, arith, ◌∙◌, ap, subst}
 use Rattle.std.specs.List.{AllByRecursion}
-use Rattle.std.specs.Io.KnownBytes.{append_known}
 use Rattle.std.proofs.lemmas.List.{take_all, drop_all, length-replicate}
 use Rattle.object_format.specs.Code.{IsLinkedCode}
 use Rattle.object_format.specs.Image.{LinkedFn, Linked, IsLinked, IsLinkedFn}
 use Rattle.object_format.specs.Version.{code_offset, functions_place}
 use Rattle.object_format.specs.declared.version.Version.{Version}
 use Rattle.object_format.proofs.CodeFaults.{or_later-none}
-use Rattle.outside.specs.Counts.{Rose}
-use Rattle.outside.specs.Fronts.{AppendsFront}
+use Rattle.sinks.specs.Prefixes.{TakesPrefix}
+use Rattle.sinks.specs.Putting.{PuttingLeaves}
+use Rattle.sinks.specs.SinkState.{SinkState, with_text, with_fault, with_want}
+use Rattle.sinks.specs.declared.putting.Putting.TheVariants as putting
+use Rattle.sinks.proofs.Texts.{prefix_later, with_text-append}
 use Rattle.stack_vm.specs.Heights.{greatest_of}
 use Rattle.stack_vm.specs.Faults.{functions_fault, entry_fault, image_fault}
 use Rattle.stack_vm.specs.Sound.{At, IsSound, AllSound}
 use Rattle.stack_vm.specs.Standing.{Runs, RunsOn}
-use Rattle.stack_vm.specs.SinkState.{SinkState, with_text}
-use Rattle.stack_vm.specs.Acts.{Ran, runs, begun_at, Act}
-use Rattle.stack_vm.specs.Running.{acts, WorkLeaves, RunLeaves, FrontOf, FrontIf}
-use Rattle.stack_vm.specs.Putting.{PuttingLeaves}
+use Rattle.stack_vm.specs.Acts.{Ran, begun_at, Act}
+use Rattle.stack_vm.specs.Running.{acts, WorkLeaves, RunLeaves, PrefixOf, PrefixIf}
 use Rattle.stack_vm.specs.declared.end.End.{End}
 use Rattle.stack_vm.specs.declared.end.End.TheVariants as end
 use Rattle.stack_vm.specs.declared.machine.State.{State}
-use Rattle.stack_vm.specs.declared.putting.Putting.TheVariants as putting
 use Rattle.stack_vm.proofs.Frames.{the_same}
 use Rattle.stack_vm.proofs.Soundness.{sound_function}
-use Rattle.stack_vm.proofs.Texts.{append_known-append}
 
 functions_sound : (fs : List LinkedFn) (version : Version) (at : ℕ) (gs : List LinkedFn) → functions_fault fs version at gs ≡ None → AllByRecursion (λ f. IsLinkedCode (length fs) f.code) gs → (k : ℕ) (f : LinkedFn) → slice_get gs k ≡ Some f → IsSound fs f
 functions_sound fs version at [] e linked k f is = absurd cc
@@ -102,46 +100,34 @@ run_end wanted old newer end.OutOfSteps a b h = h
 pub done_end : (wanted : Option Ran) (old new newer : SinkState) (kept : List ℕ) (e : End) → e ≢ end.WriteFault → e ≢ end.Memory → WorkLeaves wanted old new kept e → newer ≡ with_text kept new → RunLeaves wanted old newer e
 done_end wanted old new newer kept e a b h told =
     let w = whole_end wanted old new kept e a b h in
-    run_end wanted old newer e a b (w.0 ++ kept, w.1, told ∙ ap (with_text kept) w.2 ∙ ap (λ held. record old { held = held }) (append_known-append old.held w.0 kept))
+    run_end wanted old newer e a b (w.0 ++ kept, w.1, told ∙ ap (with_text kept) w.2 ∙ with_text-append old w.0 kept)
 
-front_end : (wanted : Option Ran) (old new newer : SinkState) (kept : List ℕ) (how : End) (put : List ℕ) → wanted ≡ Some (record { how = how; text = put ++ kept }) → new ≡ with_text put old → AppendsFront new.held newer.held kept → FrontOf wanted old newer
-front_end wanted old new newer kept how put is told a =
-    let b : AppendsFront (append_known old.held put) newer.held kept = subst (λ (n : SinkState). AppendsFront n.held newer.held kept) told a in
-    record {
-      ran = record { how = how; text = put ++ kept };
-      gives = is;
-      appends = record {
-        front = put ++ b.front;
-        rest = b.rest;
-        splits = append_assoc put b.front b.rest ∙ ap (λ (x : List ℕ). put ++ x) b.splits;
-        appends = b.appends ∙ append_known-append old.held put b.front;
-      };
-    }
+-- a put that did not take all of the last text
+prefix_end : (wanted : Option Ran) (then : SinkState → SinkState) (old new newer : SinkState) (kept : List ℕ) (e : End) → e ≢ end.WriteFault → e ≢ end.Memory → WorkLeaves wanted old new kept e → TakesPrefix new kept then newer → PrefixOf wanted then old newer
+prefix_end wanted then old new newer kept e a b h p =
+    let w = whole_end wanted old new kept e a b h in
+    record { ran = record { how = e; text = w.0 ++ kept }; gives = w.1; takes = prefix_later old new newer w.0 kept then w.2 p }
 
 pub failed_end : (wanted : Option Ran) (old new newer : SinkState) (kept : List ℕ) (e : End) → e ≢ end.WriteFault → e ≢ end.Memory → WorkLeaves wanted old new kept e → PuttingLeaves new kept putting.Failed newer → RunLeaves wanted old newer end.WriteFault
-failed_end wanted old new newer kept e a b h p =
-    let w = whole_end wanted old new kept e a b h in
-    (subst (λ (n : SinkState). Rose n.faults newer.faults) w.2 p.0, front_end wanted old new newer kept e w.0 w.1 w.2 p.1)
+failed_end wanted old new newer kept e a b h p = prefix_end wanted with_fault old new newer kept e a b h p
 
 pub memory_end : (wanted : Option Ran) (old new newer : SinkState) (kept : List ℕ) (e : End) → e ≢ end.WriteFault → e ≢ end.Memory → WorkLeaves wanted old new kept e → PuttingLeaves new kept putting.Memory newer → RunLeaves wanted old newer end.Memory
-memory_end wanted old new newer kept e a b h p =
-    let w = whole_end wanted old new kept e a b h in
-    (p.0 ∙ ap (λ (n : SinkState). n.faults) w.2, front_end wanted old new newer kept e w.0 w.1 w.2 p.1)
+memory_end wanted old new newer kept e a b h p = prefix_end wanted with_want old new newer kept e a b h p
 
 -- an end that a put made
-front_if : (wanted : Option Ran) (ran : Ran) (old new : SinkState) → wanted ≡ Some ran → FrontIf wanted old new → FrontOf wanted old new
-front_if wanted ran old new is h = record { ran = ran; gives = is; appends = subst (λ (w : Option Ran). FrontIf w old new) is h }
+prefix_there : (wanted : Option Ran) (ran : Ran) (then : SinkState → SinkState) (old new : SinkState) → wanted ≡ Some ran → PrefixIf wanted then old new → PrefixOf wanted then old new
+prefix_there wanted ran then old new is h = record { ran = ran; gives = is; takes = subst (λ (w : Option Ran). PrefixIf w then old new) is h }
 
 pub kept_failed : (wanted : Option Ran) (ran : Ran) (old new : SinkState) (kept : List ℕ) → wanted ≡ Some ran → WorkLeaves wanted old new kept end.WriteFault → RunLeaves wanted old new end.WriteFault
-kept_failed wanted ran old new kept is h = (h.0, front_if wanted ran old new is h.1)
+kept_failed wanted ran old new kept is h = prefix_there wanted ran with_fault old new is h
 
 pub kept_memory : (wanted : Option Ran) (ran : Ran) (old new : SinkState) (kept : List ℕ) → wanted ≡ Some ran → WorkLeaves wanted old new kept end.Memory → RunLeaves wanted old new end.Memory
-kept_memory wanted ran old new kept is h = (h.0, front_if wanted ran old new is h.1)
+kept_memory wanted ran old new kept is h = prefix_there wanted ran with_want old new is h
 
 -- whatever the end, the defined run is not stuck
 pub leaves_defined : (wanted : Option Ran) (old new : SinkState) (e : End) → RunLeaves wanted old new e → (ran : Ran) × (wanted ≡ Some ran)
-leaves_defined wanted old new end.WriteFault h = (h.1.ran, h.1.gives)
-leaves_defined wanted old new end.Memory h = (h.1.ran, h.1.gives)
+leaves_defined wanted old new end.WriteFault h = (h.ran, h.gives)
+leaves_defined wanted old new end.Memory h = (h.ran, h.gives)
 leaves_defined wanted old new end.Ended h = (_, h.1)
 leaves_defined wanted old new (end.Trapped kind f at) h = (_, h.1)
 leaves_defined wanted old new end.OutOfSteps h = (_, h.1)

@@ -7,7 +7,6 @@ use Rattle.std.proofs.lemmas.List.{drop_all, length-replicate}
 use Rattle.object_format.specs.Image.{LinkedFn}
 use Rattle.object_format.specs.Reading.{code_fault, or_later}
 use Rattle.object_format.specs.declared.fault.What.{What}
-use Rattle.object_format.specs.declared.fault.What.TheVariants as word
 use Rattle.stack_vm.specs.Operation.{size, IsThere, placed, operations}
 use Rattle.stack_vm.specs.Heights.{taken, left_by, jumps_to, handed_on, brings, first_at, as_number, Shows, Before, here, next, reached, at_start, heights, heights_of, greatest}
 use Rattle.stack_vm.specs.Faults.{is_return, may_end, misses, brings_other, is_crossed, height_at, word_at, fault_if, is_empty, code_faults, Judges}

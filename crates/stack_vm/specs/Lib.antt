@@ -3,11 +3,8 @@ pub mod Effect
 pub mod Faults
 pub mod Going
 pub mod Heights
-pub mod MemorySinkState
 pub mod Operation
-pub mod Putting
 pub mod Running
-pub mod SinkState
 pub mod Sound
 pub mod Standing
 pub mod Sweep

@@ -1,44 +1,43 @@
 -- What a run leaves in its sink.
 use Rattle.std.specs.Prelude.{◌≡◌, ◌+◌, ℕ, List, [], ◌∷◌, ◌++◌, take, reverse, length, drop, slice_get, ℤ, Option, Some, None, IfSome}
 use Rattle.object_format.specs.Image.{LinkedFn}
-use Rattle.outside.specs.Counts.{Rose}
-use Rattle.outside.specs.Fronts.{AppendsFront}
-use Rattle.stack_vm.specs.SinkState.{SinkState, with_text}
+use Rattle.sinks.specs.Prefixes.{TakesPrefix}
+use Rattle.sinks.specs.SinkState.{SinkState, with_text, with_fault, with_want}
+use Rattle.sinks.specs.declared.putting.Putting.{Putting}
+use Rattle.sinks.specs.declared.putting.Putting.TheVariants as putting
 use Rattle.stack_vm.specs.Acts.{Act, Ran}
 use Rattle.stack_vm.specs.declared.end.End.{End}
 use Rattle.stack_vm.specs.declared.end.End.TheVariants as end
 use Rattle.stack_vm.specs.declared.machine.State.{State}
 use Rattle.stack_vm.specs.declared.machine.Frame.{Frame}
-use Rattle.stack_vm.specs.declared.putting.Putting.{Putting}
-use Rattle.stack_vm.specs.declared.putting.Putting.TheVariants as putting
 
--- The run is not stuck, and the sink gained a front of what it prints.
-pub record FrontOf (wanted : Option Ran) (old new : SinkState) : Type 0 where
+-- The run is not stuck. The sink took a prefix of what it prints, and then this happened to it.
+pub record PrefixOf (wanted : Option Ran) (then : SinkState → SinkState) (old new : SinkState) : Type 0 where
   pub ran : Ran
   pub gives : wanted ≡ Some ran
-  pub appends : AppendsFront old.held new.held ran.text
+  pub takes : TakesPrefix old ran.text then new
 
--- A put failed, and the count of faults rose: the sink gained a front of the text, if the run is not stuck. The same where the sink found no memory, but for the count.
-abbrev pub FrontIf : Option Ran → SinkState → SinkState → Type 0
-FrontIf wanted old new = IfSome wanted (λ ran. AppendsFront old.held new.held ran.text)
+-- The same, if the run is not stuck.
+abbrev pub PrefixIf : Option Ran → (SinkState → SinkState) → SinkState → SinkState → Type 0
+PrefixIf wanted then old new = IfSome wanted (λ ran. TakesPrefix old ran.text then new)
 
--- The run ends as it should, and the sink gains exactly its text; but where a put failed or found no memory, a front of it.
+-- The run ends as it should, and the sink gains exactly its text; but where a put failed or found no memory, a prefix of it.
 abbrev pub RunLeaves : Option Ran → SinkState → SinkState → End → Type 0
-RunLeaves wanted old new end.WriteFault = Rose old.faults new.faults × FrontOf wanted old new
-RunLeaves wanted old new end.Memory = (new.faults ≡ old.faults) × FrontOf wanted old new
+RunLeaves wanted old new end.WriteFault = PrefixOf wanted with_fault old new
+RunLeaves wanted old new end.Memory = PrefixOf wanted with_want old new
 RunLeaves wanted old new how = (text : List ℕ) × (wanted ≡ Some (record { how = how; text = text })) × (new ≡ with_text text old)
 
 -- The same where the last part of the text is still kept back.
 abbrev pub WorkLeaves : Option Ran → SinkState → SinkState → List ℕ → End → Type 0
-WorkLeaves wanted old new kept end.WriteFault = Rose old.faults new.faults × FrontIf wanted old new
-WorkLeaves wanted old new kept end.Memory = (new.faults ≡ old.faults) × FrontIf wanted old new
+WorkLeaves wanted old new kept end.WriteFault = PrefixIf wanted with_fault old new
+WorkLeaves wanted old new kept end.Memory = PrefixIf wanted with_want old new
 WorkLeaves wanted old new kept how = (put : List ℕ) × (wanted ≡ Some (record { how = how; text = put ++ kept })) × (new ≡ with_text put old)
 
 -- The kept text goes to the sink, or it stays; a line is kept then.
 abbrev pub Keeps : SinkState → SinkState → List ℕ → List ℕ → List ℕ → Putting → Type 0
 Keeps old new before kept line putting.Done = (put : List ℕ) × (new ≡ with_text put old) × (put ++ kept ≡ before ++ line)
-Keeps old new before kept line putting.Failed = Rose old.faults new.faults × AppendsFront old.held new.held before
-Keeps old new before kept line putting.Memory = (new.faults ≡ old.faults) × AppendsFront old.held new.held before
+Keeps old new before kept line putting.Failed = TakesPrefix old before with_fault new
+Keeps old new before kept line putting.Memory = TakesPrefix old before with_want new
 
 -- how many slots a function has
 abbrev pub slots_count : Option LinkedFn → ℕ

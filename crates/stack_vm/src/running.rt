@@ -11,15 +11,14 @@ ghost use Rattle.stack_vm.specs.Sound.{AllSound};
 ghost use Rattle.stack_vm.specs.Standing.{RunsOn};
 ghost use Rattle.stack_vm.specs.Acts.{line_of, runs, runs_from, Ran};
 ghost use Rattle.stack_vm.specs.Running.{acts, Counted, Keeps, WorkLeaves, RunLeaves};
-ghost use Rattle.stack_vm.specs.SinkState.{SinkState};
+ghost use Rattle.sinks.specs.SinkState.{SinkState};
 
-use crate::Sink;
 use crate::copies::clear;
 use crate::end::{End, Kind};
 use crate::machine::{Frame, MOST_WORDS, Next, State, TEXT_ROOM, call, greatest_at, leave, step};
-use crate::putting::{Putting, put_all};
 use itoa::Buffer;
 use object_format::ImageFn;
+use sinks::{Putting, Sink, put_all};
 use std::alloc::Global;
 
 /// The most bytes of a line: a sign, nineteen digits and the line's end.

@@ -1,10 +1,10 @@
-use crate::{End, MemorySink, Valid, run, validate};
+use crate::{End, Valid, run, validate};
 use lar_bytes::OrMemory;
 use object_format::{BadFile, image_version, read_image};
+use sinks::MemorySink;
 use std::alloc::{AllocError, Global};
 
 mod limits;
-mod outputs;
 mod refusals;
 mod runs;
 

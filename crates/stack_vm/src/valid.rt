@@ -8,13 +8,13 @@ ghost use Rattle.stack_vm.specs.Faults.{image_fault};
 ghost use Rattle.stack_vm.specs.Acts.{Ran, runs_of};
 ghost use Rattle.stack_vm.specs.Running.{RunLeaves};
 
-use crate::Sink;
 use crate::end::End;
 use crate::machine::{Frame, MOST_FRAMES, ROOM, TEXT_ROOM};
 use crate::running::run_from;
 use crate::validating::{entry_fault, greatest_heights};
 use lar_bytes::OrMemory;
 use object_format::{BadFile, Image, Version};
+use sinks::Sink;
 use std::alloc::{AllocError, Global};
 use std::marker::Model;
 
@@ -91,8 +91,8 @@ impl Valid {
 }
 
 /// Runs a valid image from its entry for at most so many steps. The sink gains exactly the text that
-/// the steps print. Where a put fails or finds no memory, the run ends by that, and the sink has a
-/// front of the text. The run itself takes no memory.
+/// the steps print. Where a put fails or finds no memory, the run ends by that one put, and the sink
+/// has a prefix of the text. The run itself takes no memory.
 pub fn run<S: Sink>(alloc: Global, valid: &mut Valid, steps: u64, sink: &mut S) -> End
     requires { valid.old.reserved ≡ true }
     ensures leaves { RunLeaves (runs_of valid.old.image steps) (S.told sink.old) (S.told sink.new) result }

@@ -4,8 +4,9 @@ use Rattle.std.specs.List.{list_all}
 use Rattle.std.specs.Str.{bytes_eq}
 use Rattle.words.specs.Lines.{Choice, Given, Line, Text, line_of, look}
 use Rattle.words.specs.Numbers.{is_name, number_in}
+use Rattle.words.specs.Recipes.{Recipe}
 use Rattle.words.specs.declared.commands.Command.{Command}
-use Rattle.words.specs.declared.commands.Command.TheVariants.{Build, Run, Dump, Link}
+use Rattle.words.specs.declared.commands.Command.TheVariants.{Build, Run, Dump, Link, Gen}
 
 -- an option with a value, and a flag
 abbrev pub valued : Text → Choice
@@ -44,12 +45,16 @@ abbrev pub AddsNames : List Text → List Text → List Text → Bool → Type 0
 AddsNames old new files true = (list_all is_name files ≡ true) × (new ≡ old ++ files)
 AddsNames old new files false = list_all is_name files ≡ false
 
--- build main.larch, with --jobs N: N is 4 where it is not given, and only 1 is served
-abbrev pub build_taken : Line → Option Command
-build_taken line = if is_source line.files then option_map (λ jobs. Build) (number_in 1 1 (value_or (codes "4") (codes "jobs") line.given)) else None
+-- the number of jobs where it is not given: 1 where make has a jobserver
+abbrev pub default_jobs : Bool → Text
+default_jobs jobserver = if jobserver then codes "1" else codes "4"
 
-abbrev pub build_of : List Text → Option Command
-build_of words = option_and_then build_taken (line_of (valued (codes "jobs") ∷ []) words)
+-- build main.larch, with --jobs N, of which only 1 is served
+abbrev pub build_taken : Bool → Line → Option Command
+build_taken jobserver line = if is_source line.files then option_map (λ jobs. Build) (number_in 1 1 (value_or (default_jobs jobserver) (codes "jobs") line.given)) else None
+
+abbrev pub build_of : Bool → List Text → Option Command
+build_of jobserver words = option_and_then (build_taken jobserver) (line_of (valued (codes "jobs") ∷ []) words)
 
 -- run NAME, with --steps N: 1 to 1000000000000, and 100000000 where it is not given
 abbrev pub run_taken : Line → Option Command
@@ -75,16 +80,31 @@ link_taken line = option_and_then (λ names. link_to names (value_or image_name 
 abbrev pub link_of : List Text → Option Command
 link_of words = option_and_then link_taken (line_of (valued (codes "out") ∷ []) words)
 
+-- SEED and MODULES: 0 to 2147483647, and 1 to 255
+abbrev pub recipe_in : List Text → Option Recipe
+recipe_in [] = None
+recipe_in (seed ∷ []) = None
+recipe_in (seed ∷ modules ∷ []) = option_and_then (λ s. option_map (λ m. record { seed = s; modules = m }) (number_in 1 255 modules)) (number_in 0 2147483647 seed)
+recipe_in (seed ∷ modules ∷ more ∷ rest) = None
+
+-- gen SEED MODULES
+abbrev pub gen_taken : Line → Option Command
+gen_taken line = option_map Gen (recipe_in line.files)
+
+abbrev pub gen_of : List Text → Option Command
+gen_of words = option_and_then gen_taken (line_of [] words)
+
 -- the command with this name, from the words after it
-abbrev pub command_named : Text → List Text → Option Command
-command_named command words =
-    if bytes_eq command (codes "build") then build_of words
+abbrev pub command_named : Bool → Text → List Text → Option Command
+command_named jobserver command words =
+    if bytes_eq command (codes "build") then build_of jobserver words
     else (if bytes_eq command (codes "run") then run_of words
     else (if bytes_eq command (codes "dump") then dump_of words
     else (if bytes_eq command (codes "link") then link_of words
-    else None)))
+    else (if bytes_eq command (codes "gen") then gen_of words
+    else None))))
 
 -- the command that the words name
-abbrev pub command_of : List Text → Option Command
-command_of [] = None
-command_of (command ∷ words) = command_named command words
+abbrev pub command_of : Bool → List Text → Option Command
+command_of jobserver [] = None
+command_of jobserver (command ∷ words) = command_named jobserver command words

@@ -1,5 +1,6 @@
 //! The commands: each has a table of its options, with their defaults and ranges, and its file words. `build` takes
-//! the one source `main.larch` and one job so far.
+//! the one source `main.larch` and one job so far. Where its words name no number of jobs it has four, or one where make
+//! has a jobserver.
 
 ghost use Rattle.std.specs.Prelude.{◌≡◌, ◌≤◌, ◌+◌, length, map, string_bytes, option_map, IfOk};
 ghost use Rattle.words.specs.Lines as lines;
@@ -8,6 +9,7 @@ ghost use Rattle.words.specs.Commands as spec;
 use crate::line::{Choice, Given, line_of};
 use crate::names::Names;
 use crate::numbers::{is_name, number_in};
+use crate::recipe::Recipe;
 use lar_bytes::Text;
 use std::alloc::{AllocError, Global};
 
@@ -22,6 +24,8 @@ pub enum Command {
     Dump(Text),
     /// Links the objects in these files into the image with this name.
     Link(Names, Text),
+    /// Generates sources.
+    Gen(Recipe),
 }
 
 // An option that takes a value.
@@ -88,9 +92,16 @@ fn is_source(files: &[&str]) -> bool
     }
 }
 
+// The number of jobs of a build whose words name none.
+fn default_jobs(jobserver: bool) -> &'static str
+    ensures { result.now ≡ spec.default_jobs jobserver }
+{
+    if jobserver { "1" } else { "4" }
+}
+
 // build main.larch --jobs 1
-fn build_of(alloc: Global, words: &[String]) -> Result<Option<Command>, AllocError>
-    ensures { IfOk result (λ found. found ≡ spec.build_of (map string_bytes words.now)) }
+fn build_of(alloc: Global, jobserver: bool, words: &[String]) -> Result<Option<Command>, AllocError>
+    ensures { IfOk result (λ found. found ≡ spec.build_of jobserver (map string_bytes words.now)) }
 {
     let Some(line) = line_of(alloc, &[valued("jobs")], words)? else {
         return Ok(None);
@@ -98,7 +109,8 @@ fn build_of(alloc: Global, words: &[String]) -> Result<Option<Command>, AllocErr
     if !is_source(line.files.as_slice()) {
         return Ok(None);
     }
-    let Some(_) = number_in(1, 1, value_or("4", "jobs", line.given.as_slice())) else {
+    let jobs = value_or(default_jobs(jobserver), "jobs", line.given.as_slice());
+    let Some(_) = number_in(1, 1, jobs) else {
         return Ok(None);
     };
     Ok(Some(Command::Build))
@@ -182,32 +194,71 @@ fn link_of(alloc: Global, words: &[String]) -> Result<Option<Command>, AllocErro
     Ok(Some(Command::Link(names, Text::copied(alloc, output)?)))
 }
 
+// The recipe that two file words spell.
+fn recipe_in(files: &[&str]) -> Option<Recipe>
+    ensures { result ≡ spec.recipe_in (map (λ file. file.now) files.now) }
+{
+    match files {
+        [seed, modules] => {
+            let Some(seed) = number_in(0, 2_147_483_647, seed) else {
+                return None;
+            };
+            let Some(modules) = number_in(1, 255, modules) else {
+                return None;
+            };
+            Some(Recipe::new(seed as u32, modules as u16))
+        }
+        _ => None,
+    }
+}
+
+// gen SEED MODULES
+fn gen_of(alloc: Global, words: &[String]) -> Result<Option<Command>, AllocError>
+    ensures { IfOk result (λ found. found ≡ spec.gen_of (map string_bytes words.now)) }
+{
+    let Some(line) = line_of(alloc, &[], words)? else {
+        return Ok(None);
+    };
+    let Some(recipe) = recipe_in(line.files.as_slice()) else {
+        return Ok(None);
+    };
+    Ok(Some(Command::Gen(recipe)))
+}
+
 fn command_named(
     alloc: Global,
+    jobserver: bool,
     command: &str,
     words: &[String],
 ) -> Result<Option<Command>, AllocError>
-    ensures { IfOk result (λ found. found ≡ spec.command_named command.now (map string_bytes words.now)) }
+    ensures { IfOk result (λ found. found ≡ spec.command_named jobserver command.now (map string_bytes words.now)) }
 {
     if command == "build" {
-        build_of(alloc, words)
+        build_of(alloc, jobserver, words)
     } else if command == "run" {
         run_of(alloc, words)
     } else if command == "dump" {
         dump_of(alloc, words)
     } else if command == "link" {
         link_of(alloc, words)
+    } else if command == "gen" {
+        gen_of(alloc, words)
     } else {
         Ok(None)
     }
 }
 
-/// The command that the words name, or nothing where they are none that is served.
-pub fn command_of(alloc: Global, words: &[String]) -> Result<Option<Command>, AllocError>
-    ensures { IfOk result (λ found. found ≡ spec.command_of (map string_bytes words.now)) }
+/// The command that the words name, or nothing where they are none that is served. Whether make has a jobserver decides
+/// the number of jobs of a build whose words name none.
+pub fn command_of(
+    alloc: Global,
+    jobserver: bool,
+    words: &[String],
+) -> Result<Option<Command>, AllocError>
+    ensures { IfOk result (λ found. found ≡ spec.command_of jobserver (map string_bytes words.now)) }
 {
     match words {
         [] => Ok(None),
-        [command, words @ ..] => command_named(alloc, command.as_str(), words),
+        [command, words @ ..] => command_named(alloc, jobserver, command.as_str(), words),
     }
 }

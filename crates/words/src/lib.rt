@@ -10,10 +10,12 @@ mod commands;
 mod line;
 mod names;
 mod numbers;
+mod recipe;
 
 pub use commands::{Command, command_of};
 pub use line::{Choice, Given, Line, line_of};
 pub use names::Names;
+pub use recipe::Recipe;
 
 #[cfg(test)]
 mod tests;

@@ -1,6 +1,6 @@
 //! Names of files and numbers, as words of a command line spell them.
 
-ghost use Rattle.std.specs.Prelude.{◌≡◌, ◌<◌, ◌-◌, ◌^◌, min, IsTrue};
+ghost use Rattle.std.specs.Prelude.{◌≡◌, ◌<◌, ◌≤◌, ◌-◌, ◌^◌, min, IfSome, IsTrue};
 ghost use Rattle.std.specs.List.{list_all};
 ghost use Rattle.words.specs.Numbers as spec;
 
@@ -66,7 +66,8 @@ fn value_of(digits: &[u8]) -> u64
 /// A number of 1 to 20 decimal digits, within a range.
 pub(crate) fn number_in(least: u64, most: u64, word: &str) -> Option<u64>
     requires { most < 2 ^ 64 - 1 }
-    ensures { result ≡ spec.number_in least most word.now }
+    ensures value { result ≡ spec.number_in least most word.now }
+    ensures range { IfSome result (λ n. (least ≤ n) × (n ≤ most)) }
 {
     let digits = word.as_bytes();
     if digits.is_empty() || digits.len() > 20 || !are_digits(digits) {

@@ -15,7 +15,7 @@ fn owned(alloc: Global, words: &[&str]) -> Result<Vec<String>, AllocError> {
 // What a command line comes to, as a text.
 fn shown(alloc: Global, words: &[&str]) -> Result<String, AllocError> {
     let words = owned(alloc, words)?;
-    match command_of(alloc, words.as_slice())? {
+    match command_of(alloc, false, words.as_slice())? {
         None => "none".to_string(alloc),
         Some(Command::Build) => "build".to_string(alloc),
         Some(Command::Run(name, steps)) => {
@@ -31,13 +31,18 @@ fn shown(alloc: Global, words: &[&str]) -> Result<String, AllocError> {
             let output = output.as_str();
             format!(in alloc; "link {count} {output}")
         }
+        Some(Command::Gen(recipe)) => {
+            let seed = recipe.seed();
+            let modules = recipe.modules();
+            format!(in alloc; "gen {seed} {modules}")
+        }
     }
 }
 
 #[test]
 fn words_name_commands(rt: HostRuntime) -> Result<(), Fail> {
     let alloc = rt.alloc();
-    let cases: [(&[&str], &str); 45] = [
+    let cases: [(&[&str], &str); 51] = [
         (&["build", "main.larch", "--jobs", "1"], "build"),
         (&["build", "--jobs=1", "main.larch"], "build"),
         (&["build", "--jobs", "01", "--", "main.larch"], "build"),
@@ -88,6 +93,12 @@ fn words_name_commands(rt: HostRuntime) -> Result<(), Fail> {
         (&["link", "a", "--out", "b.x", "a"], "link 2 b.x"),
         (&["link", "a", "--out=.b"], "none"),
         (&["link", "--out", "b"], "none"),
+        (&["gen", "0", "1"], "gen 0 1"),
+        (&["gen", "2147483647", "255"], "gen 2147483647 255"),
+        (&["gen", "2147483648", "1"], "none"),
+        (&["gen", "1", "256"], "none"),
+        (&["gen", "1", "0"], "none"),
+        (&["gen", "1"], "none"),
         (&[], "none"),
     ];
     for (words, wanted) in cases {
@@ -104,9 +115,17 @@ fn at_most_256_files_are_linked(rt: HostRuntime) -> Result<(), Fail> {
     for _ in 0..256 {
         words.push("a".to_string(alloc)?)?;
     }
-    assert!(rt; command_of(alloc, words.as_slice())?.is_some());
+    assert!(rt; command_of(alloc, false, words.as_slice())?.is_some());
     words.push("a".to_string(alloc)?)?;
-    assert!(rt; command_of(alloc, words.as_slice())?.is_none());
+    assert!(rt; command_of(alloc, false, words.as_slice())?.is_none());
+    Ok(())
+}
+
+#[test]
+fn a_jobserver_leaves_one_job(rt: HostRuntime) -> Result<(), Fail> {
+    let words = owned(rt.alloc(), &["build", "main.larch"])?;
+    assert!(rt; command_of(rt.alloc(), true, words.as_slice())?.is_some());
+    assert!(rt; command_of(rt.alloc(), false, words.as_slice())?.is_none());
     Ok(())
 }
 

@@ -1,29 +1,34 @@
-use Rattle.std.proofs.Common.{map, string_bytes}
-use Rattle.larch_cli.specs.Plain.{Outside}
-use Rattle.larch_cli.proofs.Answering.{answered}
-use Rattle.larch_cli.proofs.Counting.{usage_only, sinks_rose, files_rose}
+use Rattle.std.proofs.Common.{map, string_bytes, refl}
+use Rattle.std.specs.Prelude.{option_copied}
+use Rattle.scripts.specs.Outside.{seen}
+use Rattle.larch_cli.specs.Commands.{request_of}
+use Rattle.larch_cli.proofs.Top.{answered, counts, few}
 use Rattle.larch_cli.proofs.plain.larch_plain.Goals as goal
 
+served : goal.returns-clause-serves
+served g c = record {
+  mid = seen (g.F.Files.told c.serve-ended.new.files) (g.S.Sink.told c.serve-ended.new.out) (g.S.Sink.told c.args.err.now);
+  gives = c.serve-ended.result;
+  calls = rw c.read_flags-flags.ensures at (c.serve-ended.ensures (g.S.Sink.told c.args.err.now));
+  files = refl;
+  out = refl;
+  report = rw c.status_of.ensures at c.report.ensures;
+}
+
+pub returns-clause-serves : goal.returns-clause-serves
+returns-clause-serves = served
+
 pub returns-clause-answered : goal.returns-clause-answered
-returns-clause-answered g c =
-    let before : Outside = record { files = g.F.Files.told c.args.files.now; out = g.S.Sink.told c.args.out.now; err = g.S.Sink.told c.args.err.now } in
-    let now : Outside = record { files = g.F.Files.told c.command-wanted.new.files; out = g.S.Sink.told c.command-wanted.new.out; err = g.S.Sink.told c.report.new.err } in
-    answered (map string_bytes c.args.words.now) before now c.report.result (record { wanted = c.command-wanted.result; command = c.command-wanted.ensures; report = c.report.ensures })
+returns-clause-answered g c = answered (request_of (option_copied c.args.makeflags) (map string_bytes c.args.words.now)) _ _ _ (served g c)
+
+pub returns-clause-counts : goal.returns-clause-counts
+returns-clause-counts g c = (counts (request_of (option_copied c.args.makeflags) (map string_bytes c.args.words.now)) _ _ _ (served g c)).0
 
 pub returns-clause-usage : goal.returns-clause-usage
-returns-clause-usage g c =
-    let before : Outside = record { files = g.F.Files.told c.args.files.now; out = g.S.Sink.told c.args.out.now; err = g.S.Sink.told c.args.err.now } in
-    let now : Outside = record { files = g.F.Files.told c.command-wanted.new.files; out = g.S.Sink.told c.command-wanted.new.out; err = g.S.Sink.told c.report.new.err } in
-    usage_only (map string_bytes c.args.words.now) before now c.report.result (record { wanted = c.command-wanted.result; command = c.command-wanted.ensures; report = c.report.ensures })
+returns-clause-usage g c = (counts (request_of (option_copied c.args.makeflags) (map string_bytes c.args.words.now)) _ _ _ (served g c)).1
 
-pub returns-clause-sinks : goal.returns-clause-sinks
-returns-clause-sinks g c =
-    let before : Outside = record { files = g.F.Files.told c.args.files.now; out = g.S.Sink.told c.args.out.now; err = g.S.Sink.told c.args.err.now } in
-    let now : Outside = record { files = g.F.Files.told c.command-wanted.new.files; out = g.S.Sink.told c.command-wanted.new.out; err = g.S.Sink.told c.report.new.err } in
-    sinks_rose (map string_bytes c.args.words.now) before now c.report.result (record { wanted = c.command-wanted.result; command = c.command-wanted.ensures; report = c.report.ensures })
+pub returns-clause-unchanged : goal.returns-clause-unchanged
+returns-clause-unchanged g c = (counts (request_of (option_copied c.args.makeflags) (map string_bytes c.args.words.now)) _ _ _ (served g c)).2
 
-pub returns-clause-faults : goal.returns-clause-faults
-returns-clause-faults g c =
-    let before : Outside = record { files = g.F.Files.told c.args.files.now; out = g.S.Sink.told c.args.out.now; err = g.S.Sink.told c.args.err.now } in
-    let now : Outside = record { files = g.F.Files.told c.command-wanted.new.files; out = g.S.Sink.told c.command-wanted.new.out; err = g.S.Sink.told c.report.new.err } in
-    files_rose (map string_bytes c.args.words.now) before now c.report.result (record { wanted = c.command-wanted.result; command = c.command-wanted.ensures; report = c.report.ensures })
+pub returns-clause-few : goal.returns-clause-few
+returns-clause-few g c = few (request_of (option_copied c.args.makeflags) (map string_bytes c.args.words.now)) _ _ _ (served g c)

@@ -1,4 +1,4 @@
-use Rattle.std.proofs.Common.{◌≡◌, ◌+◌, ◌-◌, ◌++◌, take, drop}
+use Rattle.std.proofs.Common.{◌≡◌, ◌+◌, ◌++◌, take, drop}
 use Rattle.stack_vm.proofs.copies.move_down.Given as goal
 
 abbrev pub invariant-loop-at : goal.invariant-loop-at

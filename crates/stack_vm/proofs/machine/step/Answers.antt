@@ -1,4 +1,4 @@
-use Rattle.std.proofs.Common.{rules, ◌≡◌, ◌-◌, ◌+◌, ◌++◌, [], refl, arith, take, length}
+use Rattle.std.proofs.Common.{◌≡◌, ◌-◌, ◌++◌, [], refl, arith, take, length}
 use Rattle.std.proofs.lemmas.Grind.{common_steps}
 use Rattle.stack_vm.proofs.machine.step.Goals as goal
 

@@ -1,13 +1,13 @@
 use Rattle.std.proofs.Common.{◌≡◌, ℕ, ◌-◌, ◌++◌, ◌∷◌, [], length, take, replicate, pos, Option, Some, slice_get, refl, sym, ap, ◌∙◌, subst, arith, ltb, true, false}
 use Rattle.std.specs.Prelude.{vec_capacity}
 use Rattle.std.proofs.lemmas.Bool.{lt-ltb, le-ltb}
+use Rattle.sinks.proofs.Texts.{with_text-nil}
 use Rattle.stack_vm.specs.Heights.{greatest_of}
 use Rattle.stack_vm.specs.Acts.{Ran, runs, runs_from, begun_at}
 use Rattle.stack_vm.specs.Running.{acts, RunLeaves, WorkLeaves}
 use Rattle.stack_vm.specs.declared.machine.State.{State}
 use Rattle.stack_vm.proofs.Defined.{runs_defined}
 use Rattle.stack_vm.proofs.Frames.{found}
-use Rattle.stack_vm.proofs.Loop.{with_text-nil}
 use Rattle.stack_vm.proofs.Starting.{starts, starts_as}
 use Rattle.stack_vm.proofs.running.run_from.Goals as goal
 
@@ -17,7 +17,7 @@ returns-then-greatest_at-gt-MOST_WORDS-clause-leaves g c =
     let f = c.index-functions-entry.result in
     let is : slice_get fs c.args.entry ≡ Some f = found fs c.args.entry f c.requires.there c.index-functions-entry.is in
     let deep : ltb 1048576 (greatest_of fs f) ≡ true = lt-ltb _ _ (omega (arith, c.greatest_at.ensures.most, c.if-greatest_at-gt-MOST_WORDS.true)) in
-    ([], rw (is, deep) refl, with_text-nil (g.S.Sink.told c.args.sink.now))
+    ([], rw (is, deep) refl, sym (with_text-nil (g.S.Sink.told c.args.sink.now)))
 
 pub work-end-requires-clause-runs : goal.work-end-requires-clause-runs
 work-end-requires-clause-runs g c =

@@ -3,11 +3,12 @@ use Rattle.std.proofs.lemmas.Option.{slice_get-get_or}
 use Rattle.std.proofs.lemmas.Int.{to_z-of_z}
 use Rattle.std.specs.Int.{w64}
 use Rattle.object_format.specs.Image.{LinkedFn}
+use Rattle.sinks.specs.SinkState.{with_fault, with_want}
+use Rattle.sinks.proofs.Texts.{with_text-nil}
 use Rattle.stack_vm.specs.Effect.{Did, DidAt}
 use Rattle.stack_vm.specs.Standing.{height, LeaveGives, Called, TooDeep}
 use Rattle.stack_vm.specs.Acts.{Goes, step, runs, line_of}
 use Rattle.stack_vm.specs.Running.{acts}
-use Rattle.stack_vm.specs.declared.end.End.TheVariants as end
 use Rattle.stack_vm.specs.declared.end.Kind.TheVariants as kinds
 use Rattle.stack_vm.specs.declared.operation.Operation.{Operation}
 use Rattle.stack_vm.specs.declared.machine.State.{State}
@@ -15,7 +16,7 @@ use Rattle.stack_vm.specs.declared.machine.Frame.{Frame}
 use Rattle.stack_vm.specs.declared.machine.Next.TheVariants as next
 use Rattle.stack_vm.proofs.Frames.{went, found, the_same}
 use Rattle.stack_vm.proofs.Places.{at_within}
-use Rattle.stack_vm.proofs.Loop.{goes_on_quiet, goes_on_loud, ends_here, front_of, rose_since, faults_since, steps_on, prints_on, calls_on, returns_on, returns_last, run_ended, run_trapped, run_over, deep_on, stack_long, counted_same, waits_room, after_text-nil, with_text-nil}
+use Rattle.stack_vm.proofs.Loop.{goes_on_quiet, goes_on_loud, ends_here, prefix_of, steps_on, prints_on, calls_on, returns_on, returns_last, run_ended, run_trapped, run_over, deep_on, stack_long, counted_same, waits_room, after_text-nil}
 use Rattle.stack_vm.proofs.Stops.{traps}
 use Rattle.stack_vm.proofs.running.work.Goals as goal
 use Rattle.stack_vm.proofs.running.work.Goals.{in-Went, in-Call+in-Some, in-Return+in-Some-leave, in-Print+in-Done}
@@ -34,7 +35,7 @@ loop-init g c =
       going = λ f0 is0.
           let same : f0 ≡ f = the_same (slice_get fs c.args.start.number) f0 f is0 is in
           let all : c.args.steps - 0 ≡ c.args.steps = omega arith in
-          rw (same, c.requires.nothing) (record { put = []; told = with_text-nil (g.S.Sink.told c.args.sink.now); whole = after_text-nil _ ∙ ap (λ (n : ℕ). runs fs n (acts fs f c.args.start c.args.frames.now.items (take c.args.start.top c.args.words.now))) all });
+          rw (same, c.requires.nothing) (record { put = []; told = sym (with_text-nil (g.S.Sink.told c.args.sink.now)); whole = after_text-nil _ ∙ ap (λ (n : ℕ). runs fs n (acts fs f c.args.start c.args.frames.now.items (take c.args.start.top c.args.words.now))) all });
     }
 
 pub trapped-requires : goal.trapped-requires
@@ -86,16 +87,10 @@ returns-in_default-leave-clause-leaves g c f0 is0 =
     ends_here _ _ _ _ _ _ _ _ _ _ _ _ _ _ _ (c.loop.invariant.going f0 is0) ran
 
 pub returns-in-Failed-clause-leaves : goal.returns-in-Failed-clause-leaves
-returns-in-Failed-clause-leaves g c f0 is0 =
-    let going = c.loop.invariant.going f0 is0 in
-    let kept = c.in-Failed.ensures.keeps in
-    (rose_since (g.S.Sink.told c.args.sink.now) (g.S.Sink.told c.loop.sink) (g.S.Sink.told c.print.new.sink) going.put going.told kept.0, front_of _ _ _ _ _ _ _ _ _ _ _ _ _ (g.S.Sink.told c.print.new.sink) _ going kept.1)
+returns-in-Failed-clause-leaves g c f0 is0 = prefix_of _ _ _ _ _ _ _ _ _ _ _ with_fault _ _ (g.S.Sink.told c.print.new.sink) _ (c.loop.invariant.going f0 is0) c.in-Failed.ensures.keeps
 
 pub returns-in-Memory-clause-leaves : goal.returns-in-Memory-clause-leaves
-returns-in-Memory-clause-leaves g c f0 is0 =
-    let going = c.loop.invariant.going f0 is0 in
-    let kept = c.in-Memory.ensures.keeps in
-    (faults_since (g.S.Sink.told c.args.sink.now) (g.S.Sink.told c.loop.sink) (g.S.Sink.told c.print.new.sink) going.put going.told kept.0, front_of _ _ _ _ _ _ _ _ _ _ _ _ _ (g.S.Sink.told c.print.new.sink) _ going kept.1)
+returns-in-Memory-clause-leaves g c f0 is0 = prefix_of _ _ _ _ _ _ _ _ _ _ _ with_want _ _ (g.S.Sink.told c.print.new.sink) _ (c.loop.invariant.going f0 is0) c.in-Memory.ensures.keeps
 
 pub returns-in-Trapped-clause-leaves : goal.returns-in-Trapped-clause-leaves
 returns-in-Trapped-clause-leaves g c f0 is0 =

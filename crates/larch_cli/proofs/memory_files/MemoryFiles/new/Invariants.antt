@@ -1,6 +1,0 @@
-use Rattle.std.proofs.Common.{◌≡◌, take}
-use Rattle.larch_cli.specs.MemoryFilesState.{held_by}
-use Rattle.larch_cli.proofs.memory_files.MemoryFiles.new.Given as goal
-
-abbrev pub invariant-loop-file : goal.invariant-loop-file
-invariant-loop-file l = l.held ≡ held_by (take l.file-index l.contents)
