@@ -1,5 +1,5 @@
 -- What is told of an expression that has no place in a `static_assert`.
-use Rattle.std.proofs.Common.{◌≡◌, List, [], ◌∷◌, ◌++◌, refl, sym, ap, subst, ◌∙◌, Bool, true, false, Option, Some, None}
+use Rattle.std.proofs.Common.{◌≡◌, List, [], ◌∷◌, ◌++◌, refl, sym, ap, ◌∙◌, Bool, true, false, Option, None}
 use Rattle.lar_source.specs.declared.file.Span.{Span}
 use Rattle.lar_source.specs.declared.code.Code.TheVariants.{NoSuchPlace}
 use Rattle.type_table.specs.declared.row.Row.{Row}
@@ -9,9 +9,8 @@ use Rattle.lar_rules.specs.Fault.{Fault, fault, kept, least}
 use Rattle.lar_rules.specs.Judged.{Env, judged_if}
 use Rattle.lar_rules.specs.Judged as rules
 use Rattle.lar_judge.specs.declared.here.Here.{Here}
-use Rattle.lar_judge.specs.declared.judged.Judged.{Judged}
 use Rattle.lar_judge.specs.Here.{IsEnv}
-use Rattle.lar_judge.specs.Known.{typed_in, TypedWithin, known, silent, Knows}
+use Rattle.lar_judge.specs.Known.{typed_in, TypedWithin, silent, Knows}
 use Rattle.lar_judge.proofs.Least.{least_none, least_one}
 
 pub refused_known : (h : Here) (b : Bool) (rows : List Row) (env : Env) (at : Span) (x : Option PlainExpr) (faults : List Fault) → b ≡ true → IsEnv h b env → Knows rows (record { at = at; typed = None }) (rules.unless_asserting env at x faults)

@@ -1,26 +1,24 @@
 -- Calls: what their parts give is what the rules say.
-use Rattle.std.proofs.Common.{◌≡◌, ℕ, List, [], ◌∷◌, ◌++◌, length, map, refl, sym, ap, ◌∙◌, subst, append_assoc, Option, Some, None}
+use Rattle.std.proofs.Common.{◌≡◌, ℕ, List, [], ◌++◌, length, sym, ap, ◌∙◌, subst, Option, Some, None}
 use Rattle.std.specs.Prelude.{if◌then◌else◌}
 use Rattle.type_table.specs.declared.row.Row.{Row}
 use Rattle.type_table.specs.TypeOf.{TypeOf}
 use Rattle.lar_tree.specs.declared.name.Path.{Path}
-use Rattle.lar_typed.specs.declared.expr.TypedExpr.{TypedExpr}
 use Rattle.lar_typed.specs.Exprs.{PlainExpr, PlainExprs}
 use Rattle.lar_rules.specs.Fault.{Fault, least}
 use Rattle.lar_rules.specs.Declared.{Function}
-use Rattle.lar_rules.specs.Written.{Given, all_given, unknown}
+use Rattle.lar_rules.specs.Written.{Given}
 use Rattle.lar_rules.specs.Signatures.{params, outcome}
 use Rattle.lar_rules.specs.Judged.{Env, all_typed, all_faults, under}
 use Rattle.lar_rules.specs.Judged as rules
 use Rattle.lar_rules.specs.Exprs.{judged_call, call_typed, passed, mispassed, miscalled}
 use Rattle.lar_judge.specs.declared.callee.Callee.{Callee}
 use Rattle.lar_judge.specs.declared.judged.Judged.{Judged}
-use Rattle.lar_judge.specs.Calls.{callee_generics, call_head, call_tail, call_rest, IsCallee, CalleeIs, CalleeWithin}
-use Rattle.lar_judge.specs.Known.{typed_in, type_if, IfWithin, Knows}
-use Rattle.lar_judge.specs.Lists.{all_in, knowns, silents}
-use Rattle.lar_judge.specs.Wanted.{types_if, misfits, fits_all, wanted_types}
+use Rattle.lar_judge.specs.Calls.{callee_generics, call_rest, IsCallee, CalleeIs}
+use Rattle.lar_judge.specs.Known.{type_if, Knows}
+use Rattle.lar_judge.specs.Lists.{knowns}
+use Rattle.lar_judge.specs.Wanted.{types_if, misfits, fits_all}
 use Rattle.lar_judge.proofs.Asserted.{refusal_last}
-use Rattle.lar_judge.proofs.Least.{least_none, least_append}
 use Rattle.lar_judge.proofs.Operands.{knows_same, told_two}
 use Rattle.lar_judge.proofs.Passed.{passed_is, mispassed_is}
 

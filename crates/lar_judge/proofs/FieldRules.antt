@@ -1,7 +1,6 @@
 -- What stands behind a dot.
-use Rattle.std.proofs.Common.{◌≡◌, ℕ, List, [], ◌∷◌, ◌++◌, refl, sym, ap, ◌∙◌, subst, Option, Some, None}
+use Rattle.std.proofs.Common.{◌≡◌, ℕ, List, [], refl, sym, ap, ◌∙◌, subst, Option, Some, None}
 use Rattle.lar_source.specs.declared.file.Span.{Span}
-use Rattle.lar_source.specs.declared.code.Code.TheVariants.{NoSuchPlace}
 use Rattle.type_table.specs.declared.row.Row.{Row}
 use Rattle.type_table.specs.TypeOf.{TypeOf}
 use Rattle.type_table.specs.Rows.{type_at, Keeps}
@@ -9,17 +8,16 @@ use Rattle.lar_tree.specs.declared.expr.Selector.{Selector}
 use Rattle.lar_typed.specs.declared.expr.TypedExpr.{TypedExpr}
 use Rattle.lar_typed.specs.Exprs.{PlainExpr, label_of}
 use Rattle.lar_typed.specs.ExprView.{expr_view}
-use Rattle.lar_rules.specs.Fault.{Fault, fault, kept, least}
+use Rattle.lar_rules.specs.Fault.{Fault, least}
 use Rattle.lar_rules.specs.Judged as rules
-use Rattle.lar_rules.specs.Exprs.{Part as PlainPart, part_selected, part_typed, judged_part, judged_field, judged_field_of, selector_at}
+use Rattle.lar_rules.specs.Exprs.{Part as PlainPart, part_selected, judged_part, judged_field, judged_field_of}
 use Rattle.lar_judge.specs.declared.judged.Judged.{Judged}
 use Rattle.lar_judge.specs.declared.site.Part.{Part}
-use Rattle.lar_judge.specs.Known.{expr_in, typed_in, type_if, IfWithin, TypedWithin, known, silent, Knows}
-use Rattle.lar_judge.specs.Selected.{part_in, PartWithin, part_if, missing}
+use Rattle.lar_judge.specs.Known.{expr_in, typed_in, TypedWithin, known, Knows}
+use Rattle.lar_judge.specs.Selected.{part_in, part_if, missing}
 use Rattle.lar_judge.proofs.Asserted.{refusal_last}
 use Rattle.lar_judge.proofs.Kept.{typed_kept}
 use Rattle.lar_judge.proofs.Labels.{same_label}
-use Rattle.lar_judge.proofs.Least.{least_one}
 use Rattle.lar_judge.proofs.Operands.{knows_same, told_two}
 
 -- it has a fault in it

@@ -1,16 +1,14 @@
 -- Lists of expressions that grow at their end.
-use Rattle.std.proofs.Common.{◌≡◌, ℕ, List, [], ◌∷◌, ◌++◌, length, map, refl, sym, ap, ◌∙◌, Option, Some, None}
+use Rattle.std.proofs.Common.{◌≡◌, List, [], ◌∷◌, ◌++◌, length, refl, ap, ◌∙◌, Option, Some, None}
 use Rattle.type_table.specs.declared.row.Row.{Row}
-use Rattle.type_table.specs.TypeOf.{TypeOf}
-use Rattle.type_table.specs.Rows.{type_at}
 use Rattle.lar_typed.specs.declared.expr.TypedExpr.{TypedExpr}
-use Rattle.lar_typed.specs.Exprs.{ExprOf, ExprsOf, PlainExpr, PlainExprs, no_exprs, exprs, expr_map, exprs_map}
-use Rattle.lar_typed.specs.ExprView.{expr_view, exprs_view}
-use Rattle.lar_typed.specs.Within.{ExprWithin, ExprsWithin}
+use Rattle.lar_typed.specs.Exprs.{PlainExpr, PlainExprs, no_exprs, exprs}
+use Rattle.lar_typed.specs.ExprView.{expr_view}
+use Rattle.lar_typed.specs.Within.{ExprWithin}
 use Rattle.lar_rules.specs.Judged as rules
 use Rattle.lar_judge.specs.declared.judged.Judged.{Judged}
 use Rattle.lar_judge.specs.Known.{expr_in, typed_in, TypedWithin, known}
-use Rattle.lar_judge.specs.Lists.{exprs_in, all_in, ExprsAreWithin, AllWithin, JudgedWithin, knowns}
+use Rattle.lar_judge.specs.Lists.{exprs_in, ExprsAreWithin, JudgedWithin, knowns}
 use Rattle.lar_judge.specs.Gathered.{one_last, then_last}
 
 push_in : (rows : List Row) (es : List TypedExpr) (e : TypedExpr) → exprs_in rows (es ++ e ∷ []) ≡ one_last (exprs_in rows es) (expr_in rows e)

@@ -1,14 +1,14 @@
 -- What is known of an expression stays known while the table grows.
-use Rattle.std.proofs.Common.{◌≡◌, ℕ, ◌<◌, ◌≤◌, List, [], ◌∷◌, length, refl, sym, ap, ◌∙◌, Option, Some, None, arith}
+use Rattle.std.proofs.Common.{◌≡◌, ℕ, ◌≤◌, List, [], length, refl, ap, ◌∙◌, Option, Some, None, arith}
 use Rattle.type_table.specs.declared.row.Row.{Row}
-use Rattle.type_table.specs.Rows.{type_at, Keeps, Stands}
+use Rattle.type_table.specs.Rows.{Keeps}
 use Rattle.lar_typed.specs.declared.expr.TypedExpr.{TypedExpr}
 use Rattle.lar_typed.specs.ExprView.{expr_view}
 use Rattle.lar_typed.specs.Standing.{ExprStands}
 use Rattle.lar_typed.proofs.ExprsKept.{expr_kept}
 use Rattle.lar_rules.specs.Judged as rules
 use Rattle.lar_judge.specs.declared.judged.Judged.{Judged}
-use Rattle.lar_judge.specs.Known.{expr_in, typed_in, TypedWithin, type_if, IfWithin, known, silent, Knows}
+use Rattle.lar_judge.specs.Known.{expr_in, typed_in, TypedWithin, type_if, IfWithin, known, Knows}
 
 stands_in : (old new : List Row) (e : TypedExpr) → Keeps old new → TypedWithin old (Some e) → ExprStands new (expr_view e) (expr_in old e)
 stands_in old new e k w = expr_kept old new (expr_view e) (expr_in old e) k (record { within = w; is = refl })

@@ -1,5 +1,5 @@
 -- The label of an expression by its type and by its row.
-use Rattle.std.proofs.Common.{◌≡◌, ℕ, ◌<◌, List, length, refl}
+use Rattle.std.proofs.Common.{◌≡◌, ℕ, ◌<◌, List, refl}
 use Rattle.type_table.specs.declared.row.Row.{Row}
 use Rattle.type_table.specs.TypeOf.{TypeOf}
 use Rattle.type_table.specs.Rows.{type_at}

@@ -3,11 +3,13 @@ pub mod BracketRules
 pub mod Called
 pub mod FieldRules
 pub mod Gathered
+mod Indexed
 pub mod Kept
 pub mod Labels
 pub mod Least
 pub mod ListTypes
 pub mod Misfits
+pub mod NewRules
 pub mod Operands
 pub mod Outcomes
 pub mod Passed
@@ -17,5 +19,6 @@ pub mod Rows
 pub mod Scopes
 pub mod SetFields
 pub mod SettingRules
+pub mod SilentNew
 pub mod SilentRules
 pub mod Tuples

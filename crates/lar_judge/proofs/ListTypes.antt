@@ -1,5 +1,5 @@
 -- The list of the types of expressions, from its end.
-use Rattle.std.proofs.Common.{◌≡◌, ℕ, zero, suc, ◌+◌, ◌<◌, ◌≤◌, List, [], ◌∷◌, length, drop, get_or, refl, sym, ap, ◌∙◌, subst, arith}
+use Rattle.std.proofs.Common.{◌≡◌, ℕ, zero, suc, ◌<◌, List, [], ◌∷◌, length, drop, get_or, refl, sym, ap, ◌∙◌, subst, arith}
 use Rattle.type_table.specs.declared.row.Row.{Row}
 use Rattle.type_table.specs.declared.row.Row.TheVariants.{More}
 use Rattle.type_table.specs.TypeOf.{TypeOf, end, more}

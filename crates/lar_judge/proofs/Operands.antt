@@ -1,5 +1,5 @@
 -- Operators: what their parts give is what the rules say.
-use Rattle.std.proofs.Common.{◌≡◌, ℕ, ◌<◌, ◌≤◌, List, [], ◌∷◌, ◌++◌, length, refl, sym, ap, subst, ◌∙◌, Option, Some, None, true, false}
+use Rattle.std.proofs.Common.{◌≡◌, ℕ, ◌<◌, List, [], ◌++◌, length, sym, ap, subst, ◌∙◌, Option, Some, None, true, false}
 use Rattle.std.specs.Prelude.{option_map}
 use Rattle.lar_source.specs.declared.file.Span.{Span}
 use Rattle.type_table.specs.declared.row.Row.{Row}
@@ -21,9 +21,9 @@ use Rattle.lar_rules.specs.Judged as rules
 use Rattle.lar_rules.specs.Exprs.{judged_unary, unary_type, typed_unary_op, typed_binary_op, operand_type, result_type, both_typed, judged_operands, judged_binary, scalar_of, not_scalar_of}
 use Rattle.lar_judge.specs.declared.judged.Judged.{Judged}
 use Rattle.lar_judge.specs.declared.operators.Rule.{Rule}
-use Rattle.lar_judge.specs.Known.{expr_in, typed_in, TypedWithin, type_if, IfWithin, known, silent, Knows}
+use Rattle.lar_judge.specs.Known.{expr_in, typed_in, TypedWithin, type_if, IfWithin, known, Knows}
 use Rattle.lar_judge.specs.Rule.{IsRule}
-use Rattle.lar_judge.proofs.Kept.{typed_kept, within_kept, known_kept, type_kept, type_within_kept}
+use Rattle.lar_judge.proofs.Kept.{typed_kept, known_kept, type_kept, type_within_kept}
 use Rattle.lar_judge.proofs.Labels.{same_label}
 use Rattle.lar_judge.proofs.Least.{least_none, least_append}
 use Rattle.lar_judge.proofs.Misfits.{least_if, least_unless}

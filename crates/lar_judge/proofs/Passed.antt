@@ -1,9 +1,9 @@
 -- Judged expressions against the types that are wanted of them.
-use Rattle.std.proofs.Common.{◌≡◌, ℕ, zero, suc, ◌+◌, ◌<◌, ◌≤◌, List, [], ◌∷◌, ◌++◌, length, map, take, drop, get_or, refl, sym, ap, ◌∙◌, subst, arith, Bool, true, false, Option, Some, None, drop-cons}
+use Rattle.std.proofs.Common.{◌≡◌, ℕ, zero, suc, ◌+◌, ◌<◌, ◌≤◌, List, [], ◌∷◌, ◌++◌, length, drop, get_or, refl, sym, ap, ◌∙◌, subst, arith, Bool, true, false, Option, Some, None, drop-cons}
 use Rattle.std.specs.Prelude.{◌&&◌, if◌then◌else◌}
 use Rattle.type_table.specs.declared.row.Row.{Row}
 use Rattle.type_table.specs.TypeOf.{TypeOf}
-use Rattle.lar_typed.specs.Exprs.{PlainExpr, PlainExprs, no_exprs, label_of}
+use Rattle.lar_typed.specs.Exprs.{PlainExpr, PlainExprs, label_of}
 use Rattle.lar_typed.specs.SameType.{same_type}
 use Rattle.lar_rules.specs.Fault.{Fault, least}
 use Rattle.lar_rules.specs.Written.{Site}
@@ -12,11 +12,11 @@ use Rattle.lar_rules.specs.Judged.{misfit_if, fitting_if, then_expr, under, all_
 use Rattle.lar_rules.specs.Signatures.{Member}
 use Rattle.lar_rules.specs.Exprs.{mispassed, passed}
 use Rattle.lar_judge.specs.declared.judged.Judged.{Judged}
-use Rattle.lar_judge.specs.Known.{type_if, IfWithin, TypedWithin, known, silent}
-use Rattle.lar_judge.specs.Lists.{JudgedWithin, knowns, silents}
+use Rattle.lar_judge.specs.Known.{type_if, IfWithin, TypedWithin, known}
+use Rattle.lar_judge.specs.Lists.{JudgedWithin, knowns}
 use Rattle.lar_judge.specs.Wanted.{types_if, AllIfWithin, wanted_types, misfits, fits_if, fits_all}
 use Rattle.lar_judge.proofs.Least.{least_none, least_append}
-use Rattle.lar_judge.proofs.ListTypes.{drop_at, drop_whole}
+use Rattle.lar_judge.proofs.ListTypes.{drop_at}
 
 -- what is told of all is told of the types that are wanted
 pub mispassed_is : (s : Site) (gs : Option TypeOf) (ms : List Member) (js : List rules.Judged) → mispassed s gs ms js ≡ misfits s (wanted_types gs ms) js

@@ -1,8 +1,8 @@
 -- Paths that stand for values.
-use Rattle.std.proofs.Common.{◌≡◌, ℕ, List, [], ◌∷◌, length, refl, sym, ap, ◌∙◌, subst, Bool, true, false, Option, Some, None}
+use Rattle.std.proofs.Common.{◌≡◌, ℕ, List, [], length, sym, ap, ◌∙◌, subst, Bool, true, false, Option, Some, None}
 use Rattle.type_table.specs.declared.row.Row.{Row}
 use Rattle.type_table.specs.TypeOf.{TypeOf, int}
-use Rattle.type_table.specs.Rows.{type_at, Keeps, Stands}
+use Rattle.type_table.specs.Rows.{type_at, Stands}
 use Rattle.lar_tree.specs.declared.name.Path.{Path}
 use Rattle.lar_typed.specs.declared.expr.TypedExpr.{TypedExpr}
 use Rattle.lar_typed.specs.Exprs as typed
@@ -10,14 +10,10 @@ use Rattle.lar_typed.specs.Exprs.{ExprOf, PlainExpr, expr_map}
 use Rattle.lar_typed.specs.ExprView.{expr_view}
 use Rattle.lar_typed.specs.Within.{ExprWithin}
 use Rattle.lar_rules.specs.Fault.{Fault, kept, least}
-use Rattle.lar_rules.specs.Written.{Site, unknown}
+use Rattle.lar_rules.specs.Written.{unknown}
 use Rattle.lar_rules.specs.Judged as rules
 use Rattle.lar_rules.specs.Exprs.{ValueName, a_local, a_number, a_constant, no_value, judged_path, judged_local, local_typed}
-use Rattle.lar_judge.specs.declared.locals.Local.{Local}
-use Rattle.lar_judge.specs.declared.judged.Judged.{Judged}
-use Rattle.lar_judge.specs.Known.{typed_in, type_if, IfWithin, TypedWithin, known, silent, Knows}
-use Rattle.lar_judge.specs.Locals.{local_in}
-use Rattle.lar_judge.specs.Envs.{plain_env}
+use Rattle.lar_judge.specs.Known.{typed_in, TypedWithin, silent, Knows}
 use Rattle.lar_judge.proofs.Least.{least_none, least_one}
 
 abbrev judged_as : rules.Env → Path → ValueName → rules.Judged

@@ -1,12 +1,12 @@
 -- The text of a type by the names that are there is that of the rules.
-use Rattle.std.proofs.Common.{◌≡◌, ℕ, List, [], ◌∷◌, ◌++◌, refl, sym, ap, ◌∙◌, append_assoc, append-nil}
+use Rattle.std.proofs.Common.{◌≡◌, ℕ, List, [], ◌∷◌, ◌++◌, refl, ap, ◌∙◌, append_assoc, append-nil}
 use Rattle.std.specs.Prelude.{codes}
 use Rattle.lar_source.specs.declared.file.Span.{Span}
 use Rattle.lar_source.specs.declared.code.Code.TheVariants.{WrongType}
 use Rattle.type_table.specs.TypeOf.{TypeOf, int, bool, param, number, end, more, tuple, struct}
 use Rattle.type_table.specs.declared.decl.StructDecl.{StructDecl}
 use Rattle.type_sizes.specs.Spelling.{struct_text, generic_text, comma, angled, text_of}
-use Rattle.lar_rules.specs.Fault.{Fault, fault}
+use Rattle.lar_rules.specs.Fault.{fault}
 use Rattle.lar_rules.specs.Printed as rules
 use Rattle.lar_rules.specs.Written.{Site}
 use Rattle.lar_rules.specs.Judged.{other_type, printed}

@@ -2,7 +2,7 @@
 use Rattle.std.proofs.Common.{◌≡◌, ℕ, ◌<◌, ◌≤◌, List, length, ◌∙◌, arith}
 use Rattle.type_table.specs.declared.row.Row.{Row}
 use Rattle.type_table.specs.TypeOf.{TypeOf}
-use Rattle.type_table.specs.Rows.{type_at, Keeps, Stands}
+use Rattle.type_table.specs.Rows.{Keeps, Stands}
 use Rattle.lar_typed.specs.Exprs.{ExprOf, label_of}
 use Rattle.lar_typed.specs.Within.{ExprWithin}
 use Rattle.lar_judge.proofs.Labels.{label_within}

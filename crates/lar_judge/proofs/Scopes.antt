@@ -1,5 +1,5 @@
 -- The locals in scope, from the innermost on.
-use Rattle.std.proofs.Common.{◌≡◌, ℕ, zero, suc, ◌+◌, ◌<◌, ◌≤◌, List, [], ◌∷◌, ◌++◌, length, take, get_or, refl, sym, ap, ◌∙◌, subst, arith, Bool, true, false, Option, Some, None}
+use Rattle.std.proofs.Common.{◌≡◌, ℕ, zero, suc, ◌+◌, ◌<◌, List, [], ◌∷◌, ◌++◌, length, take, get_or, refl, ap, ◌∙◌, arith, Bool, true, false, Some, None}
 use Rattle.std.specs.Prelude.{if◌then◌else◌}
 use Rattle.std.specs.Str.{bytes_eq}
 use Rattle.std.proofs.lemmas.List.{take_more}
@@ -8,15 +8,15 @@ use Rattle.type_table.specs.Rows.{Keeps}
 use Rattle.lar_rules.specs.Judged as rules
 use Rattle.lar_rules.specs.Exprs.{local_named}
 use Rattle.lar_judge.specs.declared.locals.Local.{Local}
-use Rattle.lar_judge.specs.Known.{type_if, IfWithin}
-use Rattle.lar_judge.specs.Locals.{local_in, locals_in, LocalsWithin, local_if, LocalWithin}
+use Rattle.lar_judge.specs.Known.{IfWithin}
+use Rattle.lar_judge.specs.Locals.{local_in, locals_in, LocalsWithin}
 use Rattle.lar_judge.proofs.Kept.{type_kept, type_within_kept}
 
 pub locals_last : (rows : List Row) (ls : List Local) (l : Local) → locals_in rows (ls ++ l ∷ []) ≡ local_in rows l ∷ locals_in rows ls
 locals_last rows [] l = refl
 locals_last rows (k ∷ ls) l = ap (λ (xs : List rules.Local). xs ++ local_in rows k ∷ []) (locals_last rows ls l)
 
-named_at : (rows : List Row) (name : List ℕ) (ls : List Local) (i : ℕ) (d : Local) → i < length ls
+pub named_at : (rows : List Row) (name : List ℕ) (ls : List Local) (i : ℕ) (d : Local) → i < length ls
     → local_named name (locals_in rows (take (i + 1) ls)) ≡ (if bytes_eq (get_or ls i d).name.now name then Some (local_in rows (get_or ls i d)) else local_named name (locals_in rows (take i ls)))
 named_at rows name ls i d h = ap (λ (xs : List Local). local_named name (locals_in rows xs)) (take_more ls i d h) ∙ ap (local_named name) (locals_last rows (take i ls) (get_or ls i d))
 

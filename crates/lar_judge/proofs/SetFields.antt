@@ -1,5 +1,5 @@
 -- The fields of `new`, from the parts of the code.
-use Rattle.std.proofs.Common.{◌≡◌, ℕ, zero, suc, ◌<◌, ◌≤◌, List, [], ◌∷◌, ◌++◌, length, map, take, drop, get_or, refl, sym, ap, ◌∙◌, subst, arith, Bool, true, false, Option, Some, None}
+use Rattle.std.proofs.Common.{◌≡◌, ℕ, zero, suc, ◌<◌, ◌≤◌, List, [], ◌∷◌, length, take, drop, get_or, refl, sym, ap, ◌∙◌, arith, Bool, true, false, Option, None}
 use Rattle.std.specs.Prelude.{if◌then◌else◌}
 use Rattle.std.specs.Str.{bytes_eq}
 use Rattle.lar_source.specs.declared.file.Span.{Span}
@@ -12,9 +12,9 @@ use Rattle.lar_rules.specs.Written.{Site}
 use Rattle.lar_rules.specs.Judged.{all_typed}
 use Rattle.lar_rules.specs.Judged as rules
 use Rattle.lar_rules.specs.Signatures.{Member}
-use Rattle.lar_rules.specs.Exprs.{Init, misset, set_typed, passed, init_values}
+use Rattle.lar_rules.specs.Exprs.{Init, misset, set_typed, init_values}
 use Rattle.lar_judge.specs.declared.judged.Judged.{Judged}
-use Rattle.lar_judge.specs.Known.{type_if, IfWithin}
+use Rattle.lar_judge.specs.Known.{type_if}
 use Rattle.lar_judge.specs.Lists.{knowns}
 use Rattle.lar_judge.specs.Wanted.{types_if, AllIfWithin, wanted_types, misfits, fits_all}
 use Rattle.lar_judge.specs.Setting.{same_names, name_places, ill_named, AreSet}

@@ -1,5 +1,5 @@
 -- The fields of `new`: those whose names are right, and what is told at the first other one.
-use Rattle.std.proofs.Common.{◌≡◌, ℕ, zero, suc, ◌<◌, ◌≤◌, List, [], ◌∷◌, ◌++◌, length, map, take, drop, get_or, refl, sym, ap, ◌∙◌, subst, arith, append_assoc, Bool, true, false, Option, Some, None}
+use Rattle.std.proofs.Common.{◌≡◌, zero, suc, List, [], ◌∷◌, ◌++◌, length, take, drop, refl, sym, ap, ◌∙◌, arith, append_assoc, Bool, true, false, Option, Some, None}
 use Rattle.std.specs.Prelude.{if◌then◌else◌}
 use Rattle.std.specs.Str.{bytes_eq}
 use Rattle.lar_source.specs.declared.file.Span.{Span}
@@ -8,11 +8,11 @@ use Rattle.type_table.specs.TypeOf.{TypeOf}
 use Rattle.lar_typed.specs.Exprs.{PlainExpr}
 use Rattle.lar_rules.specs.Fault.{Fault, fault}
 use Rattle.lar_rules.specs.Written.{Site}
-use Rattle.lar_rules.specs.Judged.{Judged, misfit_if, fitting_if, then_expr, under}
+use Rattle.lar_rules.specs.Judged.{misfit_if, fitting_if, then_expr, under}
 use Rattle.lar_rules.specs.Signatures.{Member}
 use Rattle.lar_rules.specs.Exprs.{Init, misset, set_typed, passed, init_values}
 use Rattle.lar_judge.specs.Wanted.{wanted_types, misfits}
-use Rattle.lar_judge.specs.Setting.{same_names, name_places, ill_named}
+use Rattle.lar_judge.specs.Setting.{same_names, ill_named}
 
 told_by : (s : Site) (at : Span) (gs : Option TypeOf) (m : Member) (ms : List Member) (i : Init) (is : List Init) (b : Bool)
     → misset s at gs ms is ≡ misfits s (take (same_names ms is) (wanted_types gs ms)) (init_values is) ++ ill_named s.file at (drop (same_names ms is) ms) (drop (same_names ms is) is)

@@ -1,5 +1,5 @@
 -- A rule without the faults of the parts: they stand before its own, and its type does not depend on them.
-use Rattle.std.proofs.Common.{◌≡◌, ℕ, List, [], ◌∷◌, ◌++◌, length, map, refl, sym, ap, ◌∙◌, append_assoc, Bool, true, false, Option, Some, None}
+use Rattle.std.proofs.Common.{◌≡◌, List, [], ◌∷◌, ◌++◌, length, refl, sym, ap, ◌∙◌, append_assoc, Bool, true, false, Option, Some, None}
 use Rattle.lar_source.specs.declared.file.Span.{Span}
 use Rattle.lar_source.specs.declared.code.Code.TheVariants.{NoSuchPlace}
 use Rattle.type_table.specs.TypeOf.{TypeOf}
@@ -18,7 +18,7 @@ use Rattle.lar_rules.specs.Judged.{Env, Judged, judged_if, unless_asserting, all
 use Rattle.lar_rules.specs.Exprs.{judged_unary, judged_binary, judged_operands, operand_type, result_type, typed_binary_op, both_typed, scalar_of, not_scalar_of, judged_tuple, judged_paren, tuple_typed, judged_field, judged_field_of, judged_part, part_typed, part_selected, selector_at, Part, judged_call, call_typed, passed, mispassed, miscalled}
 use Rattle.lar_judge.specs.Known.{silent}
 use Rattle.lar_judge.specs.Lists.{silents}
-use Rattle.lar_judge.specs.Calls.{callee_generics, call_head, call_tail, call_rest}
+use Rattle.lar_judge.specs.Calls.{callee_generics, call_head, call_rest}
 use Rattle.lar_judge.proofs.Asserted.{refusal_last}
 
 pub unary_faults : (env : Env) (op : Unary) (at : Span) (e : Judged) → (judged_unary env op at e).faults ≡ e.faults ++ (judged_unary env op at (silent e)).faults
@@ -27,11 +27,11 @@ unary_faults env op at e = refl
 pub unary_same : (env : Env) (op : Unary) (at : Span) (e : Judged) → silent (judged_unary env op at (silent e)) ≡ silent (judged_unary env op at e)
 unary_same env op at e = refl
 
-misfit_same : (s : Site) (t : Option TypeOf) (j : Judged) → misfit_if s t (silent j) ≡ misfit_if s t j
+pub misfit_same : (s : Site) (t : Option TypeOf) (j : Judged) → misfit_if s t (silent j) ≡ misfit_if s t j
 misfit_same s None j = refl
 misfit_same s (Some t) j = refl
 
-fitting_same : (t : Option TypeOf) (j : Judged) → fitting_if t (silent j) ≡ fitting_if t j
+pub fitting_same : (t : Option TypeOf) (j : Judged) → fitting_if t (silent j) ≡ fitting_if t j
 fitting_same None j = refl
 fitting_same (Some t) j = refl
 
@@ -57,7 +57,7 @@ refused_same : (b : Bool) (at : Span) (e : Option PlainExpr) (fs gs refusal : Li
 refused_same true at e fs gs refusal = refl
 refused_same false at e fs gs refusal = refl
 
-unless_same : (env : Env) (at : Span) (e : Option PlainExpr) (fs gs : List Fault) → silent (unless_asserting env at e fs) ≡ silent (unless_asserting env at e gs)
+pub unless_same : (env : Env) (at : Span) (e : Option PlainExpr) (fs gs : List Fault) → silent (unless_asserting env at e fs) ≡ silent (unless_asserting env at e gs)
 unless_same env at e fs gs = refused_same env.asserting at e fs gs (fault env.site.file at NoSuchPlace [] ∷ [])
 
 part_faults : (env : Env) (at : Span) (fs : List Fault) (s : Selector) (x : PlainExpr) (o : Option Part) → (judged_part env at fs s x o).faults ≡ fs ++ (judged_part env at [] s x o).faults
@@ -84,7 +84,7 @@ field_faults env e s = field_of_faults env e s e.typed
 pub field_same : (env : Env) (e : Judged) (s : Selector) → silent (judged_field env (silent e) s) ≡ silent (judged_field env e s)
 field_same env e s = field_of_same env e s e.typed
 
-no_faults : (js : List Judged) → all_faults (silents js) ≡ []
+pub no_faults : (js : List Judged) → all_faults (silents js) ≡ []
 no_faults [] = refl
 no_faults (j ∷ js) = no_faults js
 

@@ -1,5 +1,5 @@
 -- Tuples: what their parts give is what the rules say.
-use Rattle.std.proofs.Common.{◌≡◌, ℕ, ◌<◌, List, [], ◌∷◌, ◌++◌, length, map, refl, sym, ap, subst, ◌∙◌, Option, Some, None}
+use Rattle.std.proofs.Common.{◌≡◌, ℕ, List, [], ◌∷◌, length, refl, sym, ap, subst, ◌∙◌, Option, Some, None}
 use Rattle.std.specs.Prelude.{option_map}
 use Rattle.lar_source.specs.declared.file.Span.{Span}
 use Rattle.type_table.specs.declared.row.Row.{Row}
@@ -7,7 +7,7 @@ use Rattle.type_table.specs.declared.row.Row.TheVariants.{Tuple}
 use Rattle.type_table.specs.TypeOf.{TypeOf, tuple}
 use Rattle.type_table.specs.Rows.{type_at, type_of, types, Keeps, Stands}
 use Rattle.lar_typed.specs.declared.expr.TypedExpr.{TypedExpr}
-use Rattle.lar_typed.specs.Exprs.{ExprOf, PlainExpr, PlainExprs, tuple_of, expr_map}
+use Rattle.lar_typed.specs.Exprs.{ExprOf, PlainExpr, tuple_of, expr_map}
 use Rattle.lar_typed.specs.Within.{ExprWithin}
 use Rattle.lar_typed.specs.ExprView.{expr_view, exprs_view}
 use Rattle.lar_typed.specs.Standing.{ExprsStand}
@@ -16,13 +16,11 @@ use Rattle.lar_rules.specs.Fault.{Fault, least}
 use Rattle.lar_rules.specs.Judged.{Env}
 use Rattle.lar_rules.specs.Judged as rules
 use Rattle.lar_rules.specs.Exprs.{types_of, tuple_typed, judged_tuple}
-use Rattle.lar_judge.specs.declared.here.Here.{Here}
 use Rattle.lar_judge.specs.declared.judged.Judged.{Judged}
-use Rattle.lar_judge.specs.Known.{expr_in, typed_in, TypedWithin, known, Knows}
+use Rattle.lar_judge.specs.Known.{expr_in, typed_in, TypedWithin, Knows}
 use Rattle.lar_judge.specs.Lists.{exprs_in, all_in, ExprsAreWithin, AllWithin, knowns}
-use Rattle.lar_judge.proofs.Asserted.{refusal_last}
 use Rattle.lar_judge.proofs.Operands.{knows_same}
-use Rattle.lar_judge.proofs.Rows.{keeps_twice, below_kept}
+use Rattle.lar_judge.proofs.Rows.{keeps_twice}
 
 pub exprs_stand : (old new : List Row) (es : List TypedExpr) → Keeps old new → ExprsAreWithin old es → ExprsStand new (exprs_view es) (exprs_in old es)
 exprs_stand old new es k w = exprs_kept old new (exprs_view es) (exprs_in old es) k (record { within = w; is = refl })

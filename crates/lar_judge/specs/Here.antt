@@ -1,5 +1,5 @@
 -- The names by which types are printed where an expression is written.
-use Rattle.std.specs.Prelude.{◌≡◌, ℕ, Bool, List}
+use Rattle.std.specs.Prelude.{◌≡◌, ℕ, Bool}
 use Rattle.type_sizes.specs.Spelling.{struct_text, generic_text}
 use Rattle.lar_rules.specs.Printed as rules
 use Rattle.lar_rules.specs.Written.{Site}

@@ -5,6 +5,7 @@ pub mod Here
 pub mod Known
 pub mod Lists
 pub mod Locals
+pub mod Making
 pub mod Rule
 pub mod Selected
 pub mod Setting

@@ -1,7 +1,6 @@
 -- Lists of judged expressions in the numbers of a table.
-use Rattle.std.specs.Prelude.{ℕ, ◌<◌, List, [], ◌∷◌, length, map, Option, Some, None}
+use Rattle.std.specs.Prelude.{List, [], ◌∷◌, length, map, Option, Some, None}
 use Rattle.type_table.specs.declared.row.Row.{Row}
-use Rattle.type_table.specs.TypeOf.{TypeOf}
 use Rattle.type_table.specs.Rows.{type_at}
 use Rattle.lar_typed.specs.declared.expr.TypedExpr.{TypedExpr}
 use Rattle.lar_typed.specs.Exprs.{PlainExprs, exprs_map}

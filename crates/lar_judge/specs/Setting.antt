@@ -1,5 +1,5 @@
 -- The fields of `new` against those of the struct, by their names.
-use Rattle.std.specs.Prelude.{◌≡◌, ℕ, zero, suc, ◌+◌, List, [], ◌∷◌, ◌++◌, map, Option, Some, None, if◌then◌else◌}
+use Rattle.std.specs.Prelude.{◌≡◌, ℕ, zero, suc, List, [], ◌∷◌, map, Option, if◌then◌else◌}
 use Rattle.std.specs.Str.{bytes_eq}
 use Rattle.lar_source.specs.declared.file.Span.{Span}
 use Rattle.lar_source.specs.declared.code.Code.TheVariants.{NoSuchPlace}

@@ -7,7 +7,7 @@
 //! says, and the least fault is that of the one before and the rule's own faults. So who walks the tree pays for one row or two for
 //! each expression, and a text of a type is made only for a fault that is kept.
 //!
-//! What a rule asks of declarations stands in one trait, [`Site`]. The recursion over expressions is not here yet.
+//! What a rule asks of declarations stands in one trait, [`Site`]. The recursion over expressions stands in lar_exprs.
 //! The crate depends on lar_rules, lar_told, lar_typed, lar_tree, type_table, type_sizes, lar_source and lar_bytes.
 #![tactic(auto)]
 
@@ -16,10 +16,12 @@ mod callee;
 mod fields;
 mod fit;
 mod here;
+mod innermost;
 mod judged;
 pub mod laws;
 mod literals;
 mod locals;
+mod making;
 mod operators;
 mod parts;
 mod passing;
@@ -35,6 +37,7 @@ pub use here::Here;
 pub use judged::Judged;
 pub use literals::{bracket, number, truth};
 pub use locals::{Local, Locals};
+pub use making::{Made, new_struct};
 pub use operators::{binary, bool_type, int_type, unary};
 pub use parts::tuple;
 pub use passing::{all_fit, all_misfits};

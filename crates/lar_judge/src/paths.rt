@@ -18,6 +18,7 @@ use std::alloc::{AllocError, Global};
 use type_table::Types;
 
 /// Where an expression is judged.
+#[derive(Drop)]
 pub struct Env<'a, S> {
     pub here: Here<'a>,
     pub site: &'a S,

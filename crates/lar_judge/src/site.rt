@@ -3,16 +3,19 @@ ghost use Rattle.std.specs.Prelude.{◌≡◌, ◌<◌, List, length, option_map
 ghost use Rattle.type_table.specs.declared.row.Row.{Row};
 ghost use Rattle.type_table.specs.Rows.{Keeps, type_at};
 ghost use Rattle.lar_tree.specs.ExprView.{turbofish_view};
+ghost use Rattle.lar_tree.specs.TypeView.{type_view};
 ghost use Rattle.lar_rules.specs.Declared.{texts_of, const_meant, function_meant, struct_meant};
 ghost use Rattle.lar_rules.specs.Fault.{kept, least};
 ghost use Rattle.lar_rules.specs.Written as rules;
 ghost use Rattle.lar_rules.specs.Exprs.{part_selected, turbofish_given};
 ghost use Rattle.lar_judge.specs.Calls.{CalleeIs, CalleeWithin, call_head};
+ghost use Rattle.lar_judge.specs.Known.{type_if, IfWithin};
+ghost use Rattle.lar_judge.specs.Making.{MadeIs, MadeWithin, new_head};
 ghost use Rattle.lar_judge.specs.Selected.{PartWithin, part_in};
 
-use crate::Callee;
+use crate::{Callee, Made};
 use lar_told::First;
-use lar_tree::{Path, Selector, Turbofish};
+use lar_tree::{Path, Selector, Turbofish, Ty};
 use std::alloc::{AllocError, Global};
 use type_table::Types;
 
@@ -77,4 +80,33 @@ pub trait Site {
         ensures within { IfOk result (λ c. CalleeWithin types.new c) }
         ensures is { IfOk result (λ c. CalleeIs types.new (site self.now) path.now (turbofish_given (site self.now) (option_map turbofish_view generics.now)) c (function_meant (site self.now).all (site self.now).modules path.now)) }
         ensures told { OnOk result (first.new ≡ least first.old (call_head (site self.now) path.now (turbofish_given (site self.now) (option_map turbofish_view generics.now)) count (function_meant (site self.now).all (site self.now).modules path.now))) };
+
+    /// What is known of the struct that `new` makes from a path, with these generics. What is wrong with the path and its
+    /// generics is noted.
+    fn made<'a>(
+        &'a self,
+        alloc: Global,
+        types: &mut Types,
+        first: &mut First,
+        path: &Path,
+        generics: &Option<Turbofish>,
+    ) -> Result<Option<Made<'a>>, AllocError>
+        requires { stands self.now types.old }
+        ensures kept { Keeps types.old types.new }
+        ensures within { IfOk result (λ m. MadeWithin types.new m) }
+        ensures is { IfOk result (λ m. MadeIs types.new (site self.now) path.now (turbofish_given (site self.now) (option_map turbofish_view generics.now)) m (struct_meant (site self.now).all (site self.now).modules path.now)) }
+        ensures told { OnOk result (first.new ≡ least first.old (new_head (site self.now) path.now (turbofish_given (site self.now) (option_map turbofish_view generics.now)) (struct_meant (site self.now).all (site self.now).modules path.now))) };
+
+    /// The type that is written, and none where there is a fault in it, which is noted.
+    fn written(
+        &self,
+        alloc: Global,
+        types: &mut Types,
+        first: &mut First,
+        ty: &Ty,
+    ) -> Result<Option<usize>, AllocError>
+        ensures kept { Keeps types.old types.new }
+        ensures within { IfOk result (λ n. IfWithin types.new n) }
+        ensures is { IfOk result (λ n. type_if types.new n ≡ (rules.written (site self.now) (type_view ty.now)).of) }
+        ensures told { OnOk result (first.new ≡ least first.old (rules.written (site self.now) (type_view ty.now)).faults) };
 }

@@ -1,9 +1,10 @@
 mod EntryFacts
 mod IndexFacts
 mod Looks
-mod MeantFacts
+pub mod MeantFacts
 mod Numbers
 mod ReadFacts
 mod Sameness
 mod ScopeFacts
 mod WalkFacts
+mod PathFacts

@@ -1,8 +1,7 @@
 -- Scopes that grow by one.
-use Rattle.std.proofs.Common.{◌≡◌, ◌≢◌, ℕ, zero, suc, ◌+◌, ◌<◌, List, [], ◌∷◌, ◌++◌, length, Option, Some, None, Bool, true, false, cond, refl, sym, ap, ◌∙◌, subst, Global, arith, length-append, append-nil, append_assoc, inl, inr, ◌⊎◌}
+use Rattle.std.proofs.Common.{◌≡◌, ◌≢◌, ℕ, zero, suc, ◌+◌, ◌<◌, List, [], ◌∷◌, ◌++◌, length, Option, Some, None, Bool, true, false, cond, refl, sym, ap, ◌∙◌, subst, arith, length-append, append-nil, append_assoc, inl, inr, ◌⊎◌}
 use Rattle.std.specs.Prelude.{if◌then◌else◌}
 use Rattle.std.specs.Str.{bytes_eq}
-use Rattle.std.specs.String.{string_bytes}
 use Rattle.std.specs.declared.string.String.{String}
 use Rattle.std.specs.BTreeMap.{BTreeMap}
 use Rattle.std.proofs.lemmas.Bool.Decides.{eqb_tells}
@@ -179,7 +178,7 @@ step_end ls scope rest total are bound h empty =
 pub from_root : (ls : List (List (List ℕ))) (name : List ℕ) (rest : List (List ℕ)) → AreScopes ls → list_at ls 0 ++ name ∷ rest ≡ name ∷ rest
 from_root ls name rest are = ap (λ m. m ++ name ∷ rest) (root_is ls are).1
 
-pub lists_of_push : (ps qs : List Place) (parent : ℕ) (text : String Global) (name : List ℕ) → qs ≡ ps ++ record { parent = parent; name = text } ∷ [] → string_bytes text ≡ name → lists qs ≡ lists ps ++ within (list_at (lists ps) parent) name ∷ []
+pub lists_of_push : (ps qs : List Place) (parent : ℕ) (text name : List ℕ) → qs ≡ ps ++ record { parent = parent; name = text } ∷ [] → text ≡ name → lists qs ≡ lists ps ++ within (list_at (lists ps) parent) name ∷ []
 lists_of_push ps qs parent text name is same =
     ap lists is ∙ (lists_push ps (record { parent = parent; name = text }) ∙ ap (λ n. lists ps ++ within (list_at (lists ps) parent) n ∷ []) same)
 

@@ -1,5 +1,5 @@
 -- The lists of names that scopes stand for.
-use Rattle.std.specs.Prelude.{◌≡◌, ℕ, ◌<◌, ◌≤◌, List, [], ◌∷◌, ◌++◌, length, None, string_bytes}
+use Rattle.std.specs.Prelude.{◌≡◌, ℕ, ◌<◌, ◌≤◌, List, [], ◌∷◌, ◌++◌, length, None}
 use Rattle.std.specs.BTreeMap.{BTreeMap}
 use Rattle.std.specs.declared.string.String.{String}
 use Rattle.lar_names.specs.declared.scopes.Place.{Place}
@@ -8,7 +8,7 @@ use Rattle.lar_names.specs.Tables.{look}
 
 -- the list of a module behind these lists
 abbrev pub list_of : List (List (List ℕ)) → Place → List (List ℕ)
-list_of ls p = within (list_at ls p.parent) (string_bytes p.name)
+list_of ls p = within (list_at ls p.parent) p.name
 
 abbrev pub lists_from : List (List (List ℕ)) → List Place → List (List (List ℕ))
 lists_from ls [] = ls

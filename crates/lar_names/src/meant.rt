@@ -1,7 +1,8 @@
 //! What each path means.
-ghost use Rattle.std.specs.Prelude.{◌≡◌, ℕ, ◌<◌, ◌∷◌, [], codes, length, map, option_map, slice_get};
+ghost use Rattle.std.specs.Prelude.{◌≡◌, ℕ, ◌<◌, ◌∷◌, [], codes, length, map, option_map, slice_get, IfOk};
 ghost use Rattle.lar_rules.specs.Declared as rules;
 ghost use Rattle.lar_rules.specs.Faults.{main_meant};
+ghost use Rattle.lar_rules.specs.Printed.{joined};
 ghost use Rattle.lar_rules.specs.Signatures.{struct_numbered};
 ghost use Rattle.lar_names.specs.Entries.{meaning};
 ghost use Rattle.lar_names.specs.Declarations.{declared_view};
@@ -12,7 +13,8 @@ ghost use Rattle.lar_names.specs.Numbered as numbered;
 ghost use Rattle.lar_names.specs.Scopes.{list_at};
 
 use crate::{ConstItem, Declaration, FunctionItem, Meaning, Names, StructItem};
-use lar_tree::{Name, Path, Segment};
+use lar_tree::{Name, Path, Segment, Text};
+use std::alloc::{AllocError, Global};
 
 impl<'a> Names<'a> {
     /// All that is declared, in reading order.
@@ -42,6 +44,13 @@ impl<'a> Names<'a> {
         ensures all { map (function_item (scope_lists self.now)) result.now ≡ numbered.functions (names_view self.now) }
     {
         &self.functions
+    }
+
+    /// The names of the modules of a scope, with `::` between them. A number that is no scope's has none.
+    pub fn module_path(&self, alloc: Global, scope: usize) -> Result<Text, AllocError>
+        ensures { IfOk result (λ text. text ≡ joined (scope_view self.now scope)) }
+    {
+        self.scopes.path(alloc, scope)
     }
 
     // What a name means in a scope.

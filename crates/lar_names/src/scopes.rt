@@ -1,9 +1,11 @@
 //! Scopes by number.
-ghost use Rattle.std.specs.Prelude.{◌≡◌, ℕ, ◌<◌, ◌++◌, ◌∷◌, [], List, length, map, Some, None, OnOk, OnErr, IfOk, IfSome};
+ghost use Rattle.std.specs.Prelude.{◌≡◌, ℕ, ◌<◌, ◌++◌, ◌∷◌, [], List, length, map, string_bytes, Some, None, OnOk, OnErr, IfOk, IfSome};
+ghost use Rattle.std.specs.Str.{IsAscii};
+ghost use Rattle.lar_rules.specs.Printed.{joined};
 ghost use Rattle.lar_names.specs.Scopes.{AreScopes, Grows, list_at, number_of, within};
 
 use crate::Tables;
-use lar_tree::{Name, Segment};
+use lar_tree::{Name, Segment, Text};
 use std::alloc::{AllocError, Global};
 use std::marker::Model;
 
@@ -11,7 +13,7 @@ use std::marker::Model;
 #[derive(Drop)]
 struct Place {
     parent: usize,
-    name: String,
+    name: Text,
 }
 
 /// Scopes by number. A scope is a list of names of modules, each in the one before; no two are one, and the first is empty.
@@ -64,6 +66,7 @@ impl Scopes {
 
     fn push(&mut self, alloc: Global, parent: usize, name: &str) -> Result<(), AllocError>
         requires parent { parent < length self.old }
+        requires ascii { IsAscii name.now }
         requires new { number_of (within (list_at self.old parent) name.now) self.old ≡ None }
         ensures ok { OnOk result (self.new ≡ self.old ++ within (list_at self.old parent) name.now ∷ []) }
         ensures err { OnErr result (self.new ≡ self.old) }
@@ -72,7 +75,7 @@ impl Scopes {
         self.places.reserve(1)?;
         let place = Place {
             parent,
-            name: name.to_string(alloc)?,
+            name: Text::copied(alloc, name)?,
         };
         self.inner.open(alloc)?;
         self.inner.put(alloc, parent, name, number)?;
@@ -82,7 +85,8 @@ impl Scopes {
 
     /// The scope of a module in a scope, which is added where it is new.
     pub fn enter(&mut self, alloc: Global, parent: usize, name: &str) -> Result<usize, AllocError>
-        requires { parent < length self.old }
+        requires parent { parent < length self.old }
+        requires ascii { IsAscii name.now }
         ensures grown { Grows self.old self.new }
         ensures number { IfOk result (λ n. (n < length self.new) × (list_at self.new n ≡ within (list_at self.old parent) name.now)) }
     {
@@ -112,5 +116,33 @@ impl Scopes {
             }
         }
         Some(scope)
+    }
+
+    /// Puts the names of the modules of a scope, with `::` between them. It calls itself once for each module above.
+    fn put_path(&self, scope: usize, text: &mut String) -> Result<(), AllocError>
+        ensures bytes { OnOk result (string_bytes text.new ≡ string_bytes text.old ++ joined (list_at self.now scope)) }
+        ensures ascii { OnOk result (IsAscii (string_bytes text.old) → IsAscii (string_bytes text.new)) }
+    {
+        if scope == 0 || scope > self.places.len() {
+            return Ok(());
+        }
+        let place = &self.places[scope - 1];
+        if place.parent == 0 || place.parent >= scope {
+            text.push_str(place.name.as_str())?;
+            return Ok(());
+        }
+        self.put_path(place.parent, text)?;
+        text.push_str("::")?;
+        text.push_str(place.name.as_str())?;
+        Ok(())
+    }
+
+    /// The names of the modules of a scope, with `::` between them. A number that is no scope's has none.
+    pub fn path(&self, alloc: Global, scope: usize) -> Result<Text, AllocError>
+        ensures { IfOk result (λ text. text ≡ joined (list_at self.now scope)) }
+    {
+        let mut text = String::new(alloc);
+        self.put_path(scope, &mut text)?;
+        Text::from_string(alloc, text)
     }
 }

@@ -4,6 +4,7 @@
 //! stand in one another. Each body of a module keeps the names of its items so far: a module whose name is among them is
 //! hidden, with all that stands in it.
 ghost use Rattle.std.specs.Prelude.{◌≡◌, ℕ, ◌<◌, ◌||◌, false, ◌++◌, ◌∷◌, [], List, length, IfOk, OnOk};
+ghost use Rattle.std.specs.Str.{IsAscii};
 ghost use Rattle.lar_tree.specs.ItemView.{item_view, module_view, items_view, tree_view};
 ghost use Rattle.lar_rules.specs.Declared.{has_name, item_name, item_declared, items_declared, declared_from};
 ghost use Rattle.lar_names.specs.Declarations.{Reads};
@@ -136,7 +137,8 @@ fn items<'a>(
 
 /// The name of a file without its last six bytes.
 fn name_of_module(file: &Text) -> &str
-    ensures { result.now ≡ module_name file.now }
+    ensures name { result.now ≡ module_name file.now }
+    ensures ascii { IsAscii result.now }
 {
     let name = file.as_str();
     &name[..name.len().saturating_sub(6)]

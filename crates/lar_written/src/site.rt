@@ -23,6 +23,7 @@ pub enum TypeName {
 }
 
 /// Where a type is written: the declarations, the file, the modules, and the generics in scope.
+#[derive(Clone, Copy, Drop)]
 pub struct Site<'a> {
     pub names: &'a Names<'a>,
     pub file: usize,

@@ -1,4 +1,4 @@
-use Rattle.std.proofs.Common.{◌≡◌, ◌∙◌, ap, subst, List, ℕ, Option, Some, None}
+use Rattle.std.proofs.Common.{◌∙◌, ap, subst, List, ℕ, Option, Some, None}
 use Rattle.std.specs.Prelude.{if◌then◌else◌}
 use Rattle.lar_rules.specs.Fault.{least}
 use Rattle.lar_rules.specs.Judged.{all_typed}

@@ -1,4 +1,4 @@
-use Rattle.std.proofs.Common.{◌≡◌, ◌∙◌, ap, sym, subst, refl, [], Option, Some, None}
+use Rattle.std.proofs.Common.{◌∙◌, ap, sym, subst, refl, [], Option, Some, None}
 use Rattle.lar_typed.specs.declared.expr.TypedExpr.{TypedExpr}
 use Rattle.lar_typed.specs.Exprs.{label_of}
 use Rattle.lar_typed.specs.ExprView.{expr_view}

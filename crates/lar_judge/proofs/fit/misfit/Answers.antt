@@ -1,4 +1,4 @@
-use Rattle.std.proofs.Common.{◌≡◌, ◌∙◌, sym}
+use Rattle.std.proofs.Common.{◌∙◌, sym}
 use Rattle.std.proofs.lemmas.Result.{on_ok_weaker}
 use Rattle.type_table.specs.Rows.{type_at}
 use Rattle.lar_judge.proofs.Misfits.{misfit_noted, misfit_none, misfit_faulty}

@@ -1,4 +1,4 @@
-use Rattle.std.proofs.Common.{◌≡◌, ◌∙◌, ap, refl}
+use Rattle.std.proofs.Common.{◌∙◌, ap, refl}
 use Rattle.lar_rules.specs.Judged.{misfit_if}
 use Rattle.lar_rules.specs.Fault.{least}
 use Rattle.lar_judge.specs.Known.{known}

@@ -1,4 +1,4 @@
-use Rattle.std.proofs.Common.{◌≡◌, ◌∙◌, sym}
+use Rattle.std.proofs.Common.{◌∙◌, sym}
 use Rattle.std.proofs.lemmas.Result.{on_ok_weaker}
 use Rattle.lar_judge.proofs.Operands.{not_scalar_noted, not_scalar_none, not_scalar_faulty}
 use Rattle.lar_judge.proofs.operators.not_scalar.Goals as goal

@@ -1,4 +1,4 @@
-use Rattle.std.proofs.Common.{◌≡◌, ◌∙◌}
+use Rattle.std.proofs.Common.{◌∙◌}
 use Rattle.lar_judge.proofs.Kept.{within_kept}
 use Rattle.lar_judge.proofs.Operands.{misfit_kept, unary_knows}
 use Rattle.lar_judge.proofs.operators.unary.Goals as goal

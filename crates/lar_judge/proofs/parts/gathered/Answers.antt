@@ -1,4 +1,4 @@
-use Rattle.std.proofs.Common.{◌≡◌, ◌∙◌, ap, sym, subst, List}
+use Rattle.std.proofs.Common.{◌∙◌, ap, sym, subst, List}
 use Rattle.std.proofs.IntoIterSteps.{All-taken}
 use Rattle.lar_judge.specs.declared.judged.Judged.{Judged}
 use Rattle.lar_judge.specs.Known.{typed_in}

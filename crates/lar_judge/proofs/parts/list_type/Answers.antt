@@ -1,7 +1,5 @@
-use Rattle.std.proofs.Common.{◌≡◌, ◌-◌, ◌<◌, length, ap, ◌∙◌, arith}
+use Rattle.std.proofs.Common.{◌-◌, arith}
 use Rattle.lar_typed.specs.ExprView.{expr_view}
-use Rattle.lar_typed.specs.Exprs.{label_of}
-use Rattle.lar_judge.proofs.Labels.{label_within}
 use Rattle.lar_judge.proofs.ListTypes.{within_at, list_more}
 use Rattle.lar_judge.proofs.Rows.{keeps_twice, label_below}
 use Rattle.lar_judge.proofs.parts.list_type.Goals as goal

@@ -1,4 +1,4 @@
-use Rattle.std.proofs.Common.{◌≡◌, ◌≤◌, length, drop}
+use Rattle.std.proofs.Common.{◌≤◌, length, drop}
 use Rattle.type_table.specs.Rows.{Keeps, Stands}
 use Rattle.lar_rules.specs.Exprs.{types_of}
 use Rattle.lar_judge.specs.Lists.{exprs_in}

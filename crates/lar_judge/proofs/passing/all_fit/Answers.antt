@@ -1,4 +1,4 @@
-use Rattle.std.proofs.Common.{◌≡◌, ◌∙◌, subst, arith}
+use Rattle.std.proofs.Common.{subst, arith}
 use Rattle.lar_judge.specs.declared.judged.Judged.{Judged}
 use Rattle.lar_judge.specs.Known.{TypedWithin}
 use Rattle.lar_judge.proofs.Passed.{fits_other, wanted_within, part_within}

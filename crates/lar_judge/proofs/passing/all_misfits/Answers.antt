@@ -1,4 +1,4 @@
-use Rattle.std.proofs.Common.{◌≡◌, ◌∙◌, arith}
+use Rattle.std.proofs.Common.{◌∙◌, arith}
 use Rattle.lar_judge.proofs.Passed.{misfits_more, no_types_left, no_parts_left, wanted_within, part_within}
 use Rattle.lar_judge.proofs.passing.all_misfits.Goals as goal
 

@@ -1,4 +1,4 @@
-use Rattle.std.proofs.Common.{◌≡◌, ◌∙◌, ap, sym, subst}
+use Rattle.std.proofs.Common.{◌∙◌, ap, sym, subst}
 use Rattle.lar_judge.specs.Envs.{value_in, ValueWithin, plain_env}
 use Rattle.lar_judge.proofs.PathRules.{unknown_told, refused_said, local_knows, local_said, number_said, constant_said}
 use Rattle.lar_judge.proofs.paths.path.Goals as goal

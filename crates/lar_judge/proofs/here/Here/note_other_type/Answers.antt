@@ -1,4 +1,4 @@
-use Rattle.std.proofs.Common.{◌≡◌, ◌∙◌, ap}
+use Rattle.std.proofs.Common.{◌∙◌, ap}
 use Rattle.type_table.specs.Rows.{type_at}
 use Rattle.lar_rules.specs.Fault.{kept}
 use Rattle.lar_judge.proofs.Printing.{other_same, two_texts}

@@ -17,9 +17,9 @@ invariant_of-self-2 c =
     let put : IsPut c.open.new.self.maps.items c.put.new.self.maps.items c.args.parent c.args.name.now (length ls) = subst (λ n. IsPut c.open.new.self.maps.items c.put.new.self.maps.items c.args.parent c.args.name.now n) number c.in_ok-put.ensures.ok in
     let more : length ls < length c.put.new.self.maps.items = (let a = c.put.ensures.count in let b = c.in_ok-open.ensures.count in let d = c.self.invariant.counted in omega (arith, a, b, d)) in
     let inner = inner_push ls c.args.parent c.args.name.now c.open.new.self.maps.items c.put.new.self.maps.items opened bound gone put more in
-    subst (λ xs. AreInner xs c.put.new.self.maps.items) (sym (lists_of_push c.self.inside.places.items c.push.new.self.items c.args.parent c.in_ok-to_string.field-0 c.args.name.now (c.in_ok-push.ensures.items ∙ ap (λ xs. xs ++ record { parent = c.args.parent; name = c.in_ok-to_string.field-0 } ∷ []) c.in_ok-reserve.ensures.items) c.in_ok-to_string.ensures.ok)) inner
+    subst (λ xs. AreInner xs c.put.new.self.maps.items) (sym (lists_of_push c.self.inside.places.items c.push.new.self.items c.args.parent c.in_ok-copied.field-0 c.args.name.now (c.in_ok-push.ensures.items ∙ ap (λ xs. xs ++ record { parent = c.args.parent; name = c.in_ok-copied.field-0 } ∷ []) c.in_ok-reserve.ensures.items) c.in_ok-copied.ensures)) inner
 
 pub returns-clause-ok : goal.returns-clause-ok
 returns-clause-ok c =
-    lists_of_push c.self.inside.places.items c.push.new.self.items c.args.parent c.in_ok-to_string.field-0 c.args.name.now (c.in_ok-push.ensures.items ∙ ap (λ xs. xs ++ record { parent = c.args.parent; name = c.in_ok-to_string.field-0 } ∷ []) c.in_ok-reserve.ensures.items) c.in_ok-to_string.ensures.ok
+    lists_of_push c.self.inside.places.items c.push.new.self.items c.args.parent c.in_ok-copied.field-0 c.args.name.now (c.in_ok-push.ensures.items ∙ ap (λ xs. xs ++ record { parent = c.args.parent; name = c.in_ok-copied.field-0 } ∷ []) c.in_ok-reserve.ensures.items) c.in_ok-copied.ensures
     ∙ ap (λ xs. xs ++ within (list_at xs c.args.parent) c.args.name.now ∷ []) c.self.view_is
