@@ -1,0 +1,9 @@
+pub mod ByNumber
+pub mod Declaring
+pub mod Each
+pub mod Followed
+pub mod Grown
+pub mod InOrder
+pub mod Noting
+pub mod Numbered
+pub mod Reading

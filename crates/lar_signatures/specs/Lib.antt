@@ -1,0 +1,4 @@
+pub mod Depths
+pub mod EachStands
+pub mod Noted
+pub mod Signatures

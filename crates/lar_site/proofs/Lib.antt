@@ -1,0 +1,6 @@
+mod ByNumber
+mod CallFacts
+mod MeantFacts
+mod Members
+mod Names
+mod UseFacts
