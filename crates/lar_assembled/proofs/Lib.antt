@@ -1,0 +1,3 @@
+pub mod FunctionFacts
+pub mod PartFacts
+pub mod ProgramFacts

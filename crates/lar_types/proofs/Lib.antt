@@ -1,0 +1,5 @@
+mod BodyFacts
+mod DepthFacts
+mod FunctionFacts
+mod MainFacts
+mod NameFacts
