@@ -1,5 +1,9 @@
-pub mod Marked
 pub mod Named
+pub mod Numbered
 pub mod Owned
 pub mod Partitioned
 pub mod Planned
+pub mod Ranked
+pub mod Shared
+pub mod Tallies
+pub mod Zipped

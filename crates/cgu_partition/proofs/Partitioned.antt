@@ -46,13 +46,16 @@ module _ (tree : Contents) (graph : MonoGraph) (g : IsGraph tree graph) where
   places_are owners owns =
       let free : length (homeless graph.items.items) ≡ length graph.items.items = length-map graph.items.items _ in
       record {
-        order_inside = subst (λ (n : ℕ). All (λ p. p < n) (text_order (symbols_of tree graph.items.items))) (symbols_length ∙ sym free) (order_inside (symbols_of tree graph.items.items));
-        order_once = order_once (symbols_of tree graph.items.items);
+        listed = record {
+          order_inside = subst (λ (n : ℕ). All (λ p. p < n) (text_order (symbols_of tree graph.items.items))) (symbols_length ∙ sym free) (order_inside (symbols_of tree graph.items.items));
+          order_once = order_once (symbols_of tree graph.items.items);
+          order_all = λ p l. order_all (symbols_of tree graph.items.items) p g.apart (omega (arith, symbols_length, free));
+          homeless_count = refl;
+          callees_count = g.rows ∙ sym free;
+          callees_inside = subst (λ (n : ℕ). InRange graph.callees.items n) (sym free) g.inside;
+        };
         owners_count = owns.count ∙ sym free;
         owners_inside = some_inside (first_names graph.items.items) graph.items.items owners owns;
-        homeless_count = refl;
-        callees_count = g.rows ∙ sym free;
-        callees_inside = subst (λ (n : ℕ). InRange graph.callees.items n) (sym free) g.inside;
       }
 
   module _ (limit : ℕ) (sizes : List ℕ) (are : sizes ≡ map (home_size graph.items.items) (first_names graph.items.items)) (us : List MergedUnit) (merged : map named_view us ≡ map (finished (first_names graph.items.items)) (merged_units (first_names graph.items.items) sizes limit)) where

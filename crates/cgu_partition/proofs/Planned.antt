@@ -45,7 +45,7 @@ any_placed f x (y ∷ ys) = by (nat_lt y x) (any_placed f x ys)
     by true rest = ap (λ b. f y || b) rest ∙ swap (f y) (f x) (list_any f ys)
     by false rest = refl
 
-any_sorted : (f : ℕ → Bool) (xs : List ℕ) → list_any f (sorted xs) ≡ list_any f xs
+pub any_sorted : (f : ℕ → Bool) (xs : List ℕ) → list_any f (sorted xs) ≡ list_any f xs
 unfolding sorted
 any_sorted f [] = refl
 any_sorted f (x ∷ xs) = any_placed f x (sorted xs) ∙ ap (λ b. f x || b) (any_sorted f xs)

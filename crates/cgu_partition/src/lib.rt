@@ -4,19 +4,21 @@
 //! gets copies of the items without a home that it needs (`cgu_copies`). This crate puts the steps together:
 //!
 //! 1. Symbols are made once and put in byte order; from then on items are places.
-//! 2. The names of homes are put in byte order, each once ([`homes`]). Each item knows the place of its home's name, and the sizes of
-//!    the items of one home are added up.
+//! 2. The names of homes are put in byte order, each once ([`homes`]). Each item knows the place of its home's name, and the sizes
+//!    of the items of one home are added up.
 //! 3. The homes are merged by size and name.
-//! 4. Each unit marks the names of its homes, takes the items whose homes are marked in the order of symbols, follows their calls
-//!    to items without a home, and takes those in the order of symbols too ([`plans`]).
+//! 4. Each item with a home goes into the list of the unit that its home's name is in (`buckets`): one look at each item.
+//! 5. Each unit follows the calls of its items to items without a home (`cgu_copies`). What is found is put in order by ranks,
+//!    which are places in the order of symbols (`ranks`): a copy costs where it stands ([`plans`]).
 //!
-//! Marks are numbers, one for each unit, so nothing is cleared between units. The last step goes over all items twice for
-//! each unit, of which there are at most as many as the limit; all else costs what it lists.
+//! Marks are numbers, one for each unit, so nothing is cleared between units.
 //! The crate stands on lar_bytes, lar_typed, text_order, cgu_merge, cgu_copies and mono_items.
 #![tactic(auto)]
 
+mod buckets;
 mod homes;
 mod plans;
+mod ranks;
 mod units;
 
 pub use units::partition;

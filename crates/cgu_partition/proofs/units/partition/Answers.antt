@@ -11,6 +11,8 @@ use Rattle.mono_items.specs.Units.{homeless, symbols_of, AreUnits}
 use Rattle.cgu_partition.specs.Owners.{AreOwners}
 use Rattle.cgu_partition.proofs.Named.{names_are, names_apart}
 use Rattle.cgu_partition.proofs.Partitioned.{places_are, firsts_inside, units_are, placed_same}
+use Rattle.std.proofs.lemmas.List.{length-map}
+use Rattle.cgu_partition.proofs.Shared.{shared_are}
 use Rattle.cgu_partition.proofs.units.partition.Goals as goal
 
 pub home_sizes-requires-clause-apart : goal.home_sizes-requires-clause-apart
@@ -37,6 +39,15 @@ plans_of-requires-clause-firsts c =
     let sizes : c.in_ok-sizes.sizes.items ≡ map (home_size c.args.graph.now.items.items) (first_names c.args.graph.now.items.items) = c.in_ok-sizes.ensures.sizes ∙ ap (λ (xs : List MonoItem). map (home_size xs) c.as_slice-3.result.now) c.as_slice-items.ensures.value ∙ ap (λ (ns : List (List ℕ)). map (home_size c.args.graph.now.items.items) ns) (c.as_slice-3.ensures.value ∙ names) in
     let merged : map named_view c.in_ok-units.units.items ≡ map (finished (first_names c.args.graph.now.items.items)) (merged_units (first_names c.args.graph.now.items.items) c.in_ok-sizes.sizes.items c.from.result) = c.in_ok-units.ensures ∙ ap (λ (ns : List (List ℕ)). map (finished ns) (merged_units ns c.as_slice-6.result.now c.from.result)) (c.as_slice-5.ensures.value ∙ names) ∙ ap (λ (ss : List ℕ). map (finished (first_names c.args.graph.now.items.items)) (merged_units (first_names c.args.graph.now.items.items) ss c.from.result)) c.as_slice-6.ensures.value in
     rw (c.as_slice-11.ensures.value, len) (firsts_inside c.args.typed.now c.args.graph.now c.requires.graph c.from.result c.in_ok-sizes.sizes.items sizes c.in_ok-units.units.items merged)
+
+pub plans_of-requires-clause-shared : goal.plans_of-requires-clause-shared
+plans_of-requires-clause-shared c =
+    let names : c.in_ok-names.names.items ≡ first_names c.args.graph.now.items.items = c.in_ok-names.ensures ∙ ap first_names c.as_slice-items.ensures.value in
+    let count : c.len.result ≡ length c.in_ok-names.names.items = search rules in
+    let len : c.len.result ≡ length (first_names c.args.graph.now.items.items) = count ∙ ap length names in
+    let sizes : c.in_ok-sizes.sizes.items ≡ map (home_size c.args.graph.now.items.items) (first_names c.args.graph.now.items.items) = c.in_ok-sizes.ensures.sizes ∙ ap (λ (xs : List MonoItem). map (home_size xs) c.as_slice-3.result.now) c.as_slice-items.ensures.value ∙ ap (λ (ns : List (List ℕ)). map (home_size c.args.graph.now.items.items) ns) (c.as_slice-3.ensures.value ∙ names) in
+    let merged : map named_view c.in_ok-units.units.items ≡ map (finished (first_names c.args.graph.now.items.items)) (merged_units (first_names c.args.graph.now.items.items) c.in_ok-sizes.sizes.items c.from.result) = c.in_ok-units.ensures ∙ ap (λ (ns : List (List ℕ)). map (finished ns) (merged_units ns c.as_slice-6.result.now c.from.result)) (c.as_slice-5.ensures.value ∙ names) ∙ ap (λ (ss : List ℕ). map (finished (first_names c.args.graph.now.items.items)) (merged_units (first_names c.args.graph.now.items.items) ss c.from.result)) c.as_slice-6.ensures.value in
+    rw (c.as_slice-11.ensures.value) (shared_are (first_names c.args.graph.now.items.items) c.in_ok-sizes.sizes.items c.from.result c.in_ok-units.units.items c.len.result (ap length sizes ∙ length-map (first_names c.args.graph.now.items.items) (home_size c.args.graph.now.items.items)) len merged)
 
 pub returns : goal.returns
 returns c =

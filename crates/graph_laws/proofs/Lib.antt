@@ -1,0 +1,10 @@
+pub mod Bytes
+pub mod Closing
+pub mod Fitting
+pub mod OneAnswer
+pub mod Placing
+pub mod Reading
+pub mod Same
+pub mod Symbols
+pub mod Texts
+pub mod TreeParts
