@@ -1,3 +1,4 @@
 pub mod Calm
 pub mod Following
 pub mod Laws
+mod Worked

@@ -1,12 +1,13 @@
 -- The table of commands: what each takes of its line.
-use Rattle.std.specs.Prelude.{ℕ, ◌≡◌, ◌++◌, ◌&&◌, nat_le, if◌then◌else◌, Bool, true, false, List, [], ◌∷◌, length, Option, Some, None, option_map, option_and_then, is_some, unwrap_or, codes}
+use Rattle.std.specs.Prelude.{◌≡◌, ◌++◌, ◌&&◌, nat_le, if◌then◌else◌, Bool, true, false, List, [], ◌∷◌, length, Option, Some, None, option_map, option_and_then, unwrap_or, codes}
 use Rattle.std.specs.List.{list_all}
 use Rattle.std.specs.Str.{bytes_eq}
 use Rattle.words.specs.Lines.{Choice, Given, Line, Text, line_of, look}
 use Rattle.words.specs.Numbers.{is_name, number_in}
 use Rattle.words.specs.Recipes.{Recipe}
+use Rattle.words.specs.Sources.{sources_of}
 use Rattle.words.specs.declared.commands.Command.{Command}
-use Rattle.words.specs.declared.commands.Command.TheVariants.{Build, Run, Dump, Link, Gen}
+use Rattle.words.specs.declared.commands.Command.TheVariants.{Build, Check, Units, Run, Dump, Link, Gen}
 
 -- an option with a value, and a flag
 abbrev pub valued : Text → Choice
@@ -19,9 +20,6 @@ flag name = record { name = name; takes_value = false }
 abbrev pub value_or : Text → Text → List Given → Text
 value_or default name given = unwrap_or (option_and_then (λ g. g.value) (look name given)) default
 
-abbrev pub source_name : Text
-source_name = codes "main.larch"
-
 abbrev pub image_name : Text
 image_name = codes "a.lrpx"
 
@@ -30,11 +28,6 @@ abbrev pub one_name : List Text → Option Text
 one_name [] = None
 one_name (file ∷ []) = if is_name file then Some file else None
 one_name (file ∷ another ∷ more) = None
-
-abbrev pub is_source : List Text → Bool
-is_source [] = false
-is_source (file ∷ []) = bytes_eq file source_name
-is_source (file ∷ another ∷ more) = false
 
 -- the file words of a line, where they are 1 to 256 and each names a file
 abbrev pub names_of : List Text → Option (List Text)
@@ -49,12 +42,26 @@ AddsNames old new files false = list_all is_name files ≡ false
 abbrev pub default_jobs : Bool → Text
 default_jobs jobserver = if jobserver then codes "1" else codes "4"
 
--- build main.larch, with --jobs N, of which only 1 is served
+-- build NAME.larch .., with --jobs N, of which only 1 is served
 abbrev pub build_taken : Bool → Line → Option Command
-build_taken jobserver line = if is_source line.files then option_map (λ jobs. Build) (number_in 1 1 (value_or (default_jobs jobserver) (codes "jobs") line.given)) else None
+build_taken jobserver line = option_and_then (λ jobs. option_map Build (sources_of line.files)) (number_in 1 1 (value_or (default_jobs jobserver) (codes "jobs") line.given))
 
 abbrev pub build_of : Bool → List Text → Option Command
 build_of jobserver words = option_and_then (build_taken jobserver) (line_of (valued (codes "jobs") ∷ []) words)
+
+-- check NAME.larch ..
+abbrev pub check_taken : Line → Option Command
+check_taken line = option_map Check (sources_of line.files)
+
+abbrev pub check_of : List Text → Option Command
+check_of words = option_and_then check_taken (line_of [] words)
+
+-- units NAME.larch .., with --units N: 1 to 256, and 16 where it is not given
+abbrev pub units_taken : Line → Option Command
+units_taken line = option_and_then (λ limit. option_map (λ sources. Units sources limit) (sources_of line.files)) (number_in 1 256 (value_or (codes "16") (codes "units") line.given))
+
+abbrev pub units_of : List Text → Option Command
+units_of words = option_and_then units_taken (line_of (valued (codes "units") ∷ []) words)
 
 -- run NAME, with --steps N: 1 to 1000000000000, and 100000000 where it is not given
 abbrev pub run_taken : Line → Option Command
@@ -98,11 +105,13 @@ gen_of words = option_and_then gen_taken (line_of [] words)
 abbrev pub command_named : Bool → Text → List Text → Option Command
 command_named jobserver command words =
     if bytes_eq command (codes "build") then build_of jobserver words
+    else (if bytes_eq command (codes "check") then check_of words
+    else (if bytes_eq command (codes "units") then units_of words
     else (if bytes_eq command (codes "run") then run_of words
     else (if bytes_eq command (codes "dump") then dump_of words
     else (if bytes_eq command (codes "link") then link_of words
     else (if bytes_eq command (codes "gen") then gen_of words
-    else None))))
+    else None))))))
 
 -- the command that the words name
 abbrev pub command_of : Bool → List Text → Option Command

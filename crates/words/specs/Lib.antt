@@ -4,3 +4,4 @@ pub mod Numbers
 pub mod Reads
 pub mod Recipes
 pub mod Sorting
+pub mod Sources

@@ -1,23 +1,29 @@
 //! The commands: each has a table of its options, with their defaults and ranges, and its file words. `build` takes
-//! the one source `main.larch` and one job so far. Where its words name no number of jobs it has four, or one where make
+//! one job so far. Where its words name no number of jobs it has four, or one where make
 //! has a jobserver.
 
 ghost use Rattle.std.specs.Prelude.{◌≡◌, ◌≤◌, ◌+◌, length, map, string_bytes, option_map, IfOk};
 ghost use Rattle.words.specs.Lines as lines;
 ghost use Rattle.words.specs.Commands as spec;
 
+use crate::limit::UnitLimit;
 use crate::line::{Choice, Given, line_of};
 use crate::names::Names;
 use crate::numbers::{is_name, number_in};
 use crate::recipe::Recipe;
+use crate::sources::{Sources, sources_of};
 use lar_bytes::Text;
 use std::alloc::{AllocError, Global};
 
 /// A command of the command line, with what its words say.
 #[derive(Debug, Drop)]
 pub enum Command {
-    /// Builds the source `main.larch` into the image `a.lrpx`.
-    Build,
+    /// Builds these sources into the image `a.lrpx`.
+    Build(Sources),
+    /// Checks these sources.
+    Check(Sources),
+    /// Lists the codegen units of these sources, at most so many.
+    Units(Sources, UnitLimit),
     /// Runs the image with this name, for at most so many steps.
     Run(Text, u64),
     /// Lists the object or image with this name.
@@ -82,16 +88,6 @@ fn one_name<'a>(files: &[&'a str]) -> Option<&'a str>
     }
 }
 
-// Whether the file words are the source that is served.
-fn is_source(files: &[&str]) -> bool
-    ensures { result ≡ spec.is_source (map (λ file. file.now) files.now) }
-{
-    match files {
-        [] => false,
-        [name, more @ ..] => more.is_empty() && *name == "main.larch",
-    }
-}
-
 // The number of jobs of a build whose words name none.
 fn default_jobs(jobserver: bool) -> &'static str
     ensures { result.now ≡ spec.default_jobs jobserver }
@@ -99,21 +95,51 @@ fn default_jobs(jobserver: bool) -> &'static str
     if jobserver { "1" } else { "4" }
 }
 
-// build main.larch --jobs 1
+// build NAME.larch .. --jobs 1
 fn build_of(alloc: Global, jobserver: bool, words: &[String]) -> Result<Option<Command>, AllocError>
     ensures { IfOk result (λ found. found ≡ spec.build_of jobserver (map string_bytes words.now)) }
 {
     let Some(line) = line_of(alloc, &[valued("jobs")], words)? else {
         return Ok(None);
     };
-    if !is_source(line.files.as_slice()) {
-        return Ok(None);
-    }
     let jobs = value_or(default_jobs(jobserver), "jobs", line.given.as_slice());
     let Some(_) = number_in(1, 1, jobs) else {
         return Ok(None);
     };
-    Ok(Some(Command::Build))
+    let Some(sources) = sources_of(alloc, line.files.as_slice())? else {
+        return Ok(None);
+    };
+    Ok(Some(Command::Build(sources)))
+}
+
+// check NAME.larch ..
+fn check_of(alloc: Global, words: &[String]) -> Result<Option<Command>, AllocError>
+    ensures { IfOk result (λ found. found ≡ spec.check_of (map string_bytes words.now)) }
+{
+    let Some(line) = line_of(alloc, &[], words)? else {
+        return Ok(None);
+    };
+    let Some(sources) = sources_of(alloc, line.files.as_slice())? else {
+        return Ok(None);
+    };
+    Ok(Some(Command::Check(sources)))
+}
+
+// units NAME.larch .. --units N
+fn units_of(alloc: Global, words: &[String]) -> Result<Option<Command>, AllocError>
+    ensures { IfOk result (λ found. found ≡ spec.units_of (map string_bytes words.now)) }
+{
+    let Some(line) = line_of(alloc, &[valued("units")], words)? else {
+        return Ok(None);
+    };
+    let value = value_or("16", "units", line.given.as_slice());
+    let Some(limit) = number_in(1, 256, value) else {
+        return Ok(None);
+    };
+    let Some(sources) = sources_of(alloc, line.files.as_slice())? else {
+        return Ok(None);
+    };
+    Ok(Some(Command::Units(sources, UnitLimit::new(limit as u16))))
 }
 
 // run NAME --steps N
@@ -235,6 +261,10 @@ fn command_named(
 {
     if command == "build" {
         build_of(alloc, jobserver, words)
+    } else if command == "check" {
+        check_of(alloc, words)
+    } else if command == "units" {
+        units_of(alloc, words)
     } else if command == "run" {
         run_of(alloc, words)
     } else if command == "dump" {

@@ -4,7 +4,8 @@ ghost use Rattle.std.specs.Prelude.{◌≡◌, ◌<◌, ◌≤◌, ◌-◌, ◌^
 ghost use Rattle.std.specs.List.{list_all};
 ghost use Rattle.words.specs.Numbers as spec;
 
-fn is_digit(byte: u8) -> bool
+// Whether a byte is a decimal digit.
+pub(crate) fn is_digit(byte: u8) -> bool
     ensures { result ≡ spec.is_digit byte }
 {
     byte >= b'0' && byte <= b'9'

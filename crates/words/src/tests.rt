@@ -17,7 +17,19 @@ fn shown(alloc: Global, words: &[&str]) -> Result<String, AllocError> {
     let words = owned(alloc, words)?;
     match command_of(alloc, false, words.as_slice())? {
         None => "none".to_string(alloc),
-        Some(Command::Build) => "build".to_string(alloc),
+        Some(Command::Build(sources)) => {
+            let count = sources.as_slice().len();
+            format!(in alloc; "build {count}")
+        }
+        Some(Command::Check(sources)) => {
+            let count = sources.as_slice().len();
+            format!(in alloc; "check {count}")
+        }
+        Some(Command::Units(sources, limit)) => {
+            let count = sources.as_slice().len();
+            let limit = limit.get();
+            format!(in alloc; "units {count} {limit}")
+        }
         Some(Command::Run(name, steps)) => {
             let name = name.as_str();
             format!(in alloc; "run {name} {steps}")
@@ -40,19 +52,54 @@ fn shown(alloc: Global, words: &[&str]) -> Result<String, AllocError> {
 }
 
 #[test]
-fn words_name_commands(rt: HostRuntime) -> Result<(), Fail> {
+fn words_name_sources(rt: HostRuntime) -> Result<(), Fail> {
     let alloc = rt.alloc();
-    let cases: [(&[&str], &str); 51] = [
-        (&["build", "main.larch", "--jobs", "1"], "build"),
-        (&["build", "--jobs=1", "main.larch"], "build"),
-        (&["build", "--jobs", "01", "--", "main.larch"], "build"),
+    let cases: [(&[&str], &str); 24] = [
+        (&["build", "main.larch", "--jobs", "1"], "build 1"),
+        (&["build", "--jobs=1", "main.larch"], "build 1"),
+        (&["build", "--jobs", "01", "--", "main.larch"], "build 1"),
+        (
+            &["build", "a.larch", "main.larch", "--jobs", "1"],
+            "build 2",
+        ),
         (&["build", "main.larch"], "none"),
         (&["build", "main.larch", "--jobs", "2"], "none"),
-        (&["build", "other.larch", "--jobs", "1"], "none"),
         (
             &["build", "main.larch", "main.larch", "--jobs", "1"],
             "none",
         ),
+        (&["check", "main.larch"], "check 1"),
+        (&["check", "_a9.larch", "b.larch", "Z.larch"], "check 3"),
+        (&["check"], "none"),
+        (&["check", "main.larch", "--jobs", "1"], "none"),
+        (&["check", "b.larch", "a.larch", "b.larch"], "none"),
+        (&["check", "main"], "none"),
+        (&["check", ".larch"], "none"),
+        (&["check", "9a.larch"], "none"),
+        (&["check", "a.b.larch"], "none"),
+        (&["check", "a.Larch"], "none"),
+        (&["check", "while.larch"], "none"),
+        (&["check", "larch"], "none"),
+        (&["units", "main.larch"], "units 1 16"),
+        (
+            &["units", "--units=256", "a.larch", "b.larch"],
+            "units 2 256",
+        ),
+        (&["units", "main.larch", "--units", "257"], "none"),
+        (&["units", "main.larch", "--units", "0"], "none"),
+        (&["units", "--units", "1"], "none"),
+    ];
+    for (words, wanted) in cases {
+        let found = shown(alloc, words)?;
+        assert_eq!(rt; found.as_str(), wanted, "words that should be {wanted}");
+    }
+    Ok(())
+}
+
+#[test]
+fn words_name_commands(rt: HostRuntime) -> Result<(), Fail> {
+    let alloc = rt.alloc();
+    let cases: [(&[&str], &str); 44] = [
         (&["run", "a.lrpx"], "run a.lrpx 100000000"),
         (&["run", "a.lrpx", "--steps", "7"], "run a.lrpx 7"),
         (&["run", "--steps=7", "a.lrpx"], "run a.lrpx 7"),

@@ -1,0 +1,4 @@
+mod AllParsed
+mod Decided
+mod InParts
+mod Kept
