@@ -1,6 +1,10 @@
 -- How each command may end, by what was called and what failed on the way.
-use Rattle.std.proofs.Common.{◌≡◌, ℕ, ◌+◌, ◌≤◌, Bool, true, false, List, [], ◌∷◌, length, Option, Some, None, Result, Ok, Err, refl, arith}
+use Rattle.std.proofs.Common.{◌≡◌, ℕ, ◌+◌, ◌-◌, ◌≤◌, Bool, true, false, List, [], ◌∷◌, ◌++◌, map, length, Option, Some, None, Result, Ok, Err, refl, arith}
+use Rattle.lar_source.specs.Diagnostic.{Diagnostic}
 use Rattle.lar_source.specs.declared.file.File.{File}
+use Rattle.lar_typed.specs.Trees.{PlainTree}
+use Rattle.build_front.specs.Front.{fronted}
+use Rattle.build_units.specs.Listed.{listed}
 use Rattle.listings.specs.Listed.{listing_at}
 use Rattle.object_format.specs.Image.{Linked}
 use Rattle.object_format.specs.Object.{Unlinked}
@@ -17,8 +21,8 @@ use Rattle.symbol_link.specs.declared.fault.LinkFault.{LinkFault}
 use Rattle.source_gen.specs.Sources.{files_of}
 use Rattle.words.specs.Recipes.{Recipe}
 use Rattle.words.specs.declared.commands.Command.{Command}
-use Rattle.words.specs.declared.commands.Command.TheVariants.{Build, Run, Dump, Link, Gen}
-use Rattle.larch_cli.specs.Commands.{Steps, reasons, found, fetch, saved, save, say, or_stop, given, judged, linked_or, gather, printed, run_end, build_script, run_script, dump_script, link_script, save_all, gen_script, command_script, Request, Nothing, Named, request_script, is_served}
+use Rattle.words.specs.declared.commands.Command.TheVariants.{Build, Check, Units, Run, Dump, Link, Gen}
+use Rattle.larch_cli.specs.Commands.{Steps, reasons, found, fetch, saved, save, say, or_stop, given, judged, linked_or, gather, gather_sources, fetch_sources, or_told, printed, run_end, build_script, check_script, units_script, run_script, dump_script, link_script, save_all, gen_script, command_script, Request, Nothing, Named, request_script, is_served}
 use Rattle.larch_cli.specs.Plain.{reads_of, writes_of, most_reads, most_writes}
 use Rattle.larch_cli.specs.Spelled.{accepted, limited, valid_image, with_file}
 use Rattle.larch_cli.specs.declared.status.Status.{Status}
@@ -189,6 +193,36 @@ module _ (R W : ℕ) where
   gather_ends h (name ∷ names) decoded k b u more next =
       gather_more h name names decoded k (fetch_ends h name 67108865 _ u (omega (arith, more)) (λ bytes v. gather_ends (read_once 0 h) names (with_file decoded name (limited object_at bytes)) k (bad_on decoded name (limited object_at bytes) b) v (omega (arith, more)) next))
 
+  told_ends : {X : Type 0} (h : History) (r : Result X Diagnostic) (k : X → Steps (Unit {0})) → Unwritten h → ((x : X) → Along reasons (Ends true R W) h (k x)) → Along reasons (Ends true R W) h (or_told r >>= k)
+  unfolding Along ◌>>=◌
+  told_ends h (Ok x) k u next = next x
+  told_ends h (Err d) k u next = ((u.clean.reads, u.clean.writes, (refl, (u.clean.file_faults, u.clean.put_faults), u.none)), wanted h u.clean)
+
+  -- one source, and the rest after it
+  sources_more : (h : History) (left : ℕ) (files : List File) (name : List ℕ) (names : List (List ℕ)) (k : List File → Steps (Unit {0}))
+      → Along reasons (Ends true R W) h (fetch name left >>= λ bytes. gather_sources (left - length bytes) (files ++ record { name = name; bytes = bytes } ∷ []) names >>= k) → Along reasons (Ends true R W) h (gather_sources left files (name ∷ names) >>= k)
+  unfolding Along ◌>>=◌
+  sources_more h left files name names k a = (
+    a.0,
+    a.1,
+    a.2,
+    λ x. elim x as (λ y. Along reasons (Ends true R W) (after (Read name left) (Gave y) h) ((found name y >>= λ bytes. gather_sources (left - length bytes) (files ++ record { name = name; bytes = bytes } ∷ []) names) >>= k)) [
+      | Bytes bytes ↦ a.3 (Bytes bytes)
+      | Absent ↦ a.3 Absent
+      | Failed ↦ a.3 Failed
+    ],
+  )
+
+  none_left : (h : History) (left : ℕ) (files : List File) (k : List File → Steps (Unit {0})) → Along reasons (Ends true R W) h (k files) → Along reasons (Ends true R W) h (gather_sources left files [] >>= k)
+  unfolding ◌>>=◌
+  none_left h left files k a = a
+
+  sources_ends : (h : History) (left : ℕ) (files : List File) (names : List (List ℕ)) (k : List File → Steps (Unit {0})) → Unwritten h → h.reads + length names ≤ R
+      → ((h : History) → Unwritten h → (files : List File) → Along reasons (Ends true R W) h (k files)) → Along reasons (Ends true R W) h (gather_sources left files names >>= k)
+  sources_ends h left files [] k u more next = none_left h left files k (next h u files)
+  sources_ends h left files (name ∷ names) k u more next =
+      sources_more h left files name names k (fetch_ends h name left _ u (omega (arith, more)) (λ bytes v. sources_ends (read_once 0 h) (left - length bytes) (files ++ record { name = name; bytes = bytes } ∷ []) names k v (omega (arith, more)) next))
+
   -- ---- files that are written one after the other
 
   save_more : (h : History) (file : File) (files : List File) (k : Unit {0} → Steps (Unit {0})) → Along reasons (Ends true R W) h (save file.name file.bytes >>= λ _. save_all files >>= k) → Along reasons (Ends true R W) h (save_all (file ∷ files) >>= k)
@@ -206,9 +240,21 @@ module _ (R W : ℕ) where
 
 -- ---- the commands
 
-build_ends : Along reasons (Ends true 1 1) nothing_yet build_script
-build_ends =
-    fetch_ends 1 1 nothing_yet _ _ _ (begins 1 1) (omega arith) (λ bytes u. or_stop_ends 1 1 _ (accepted bytes) _ u (λ numbers. save_ends 1 1 _ _ _ _ u.clean (omega (arith, u.none)) (λ c. last_ends 1 1 _ _ c)))
+check_ends : (names : List (List ℕ)) → Along reasons (Ends true (length names) 0) nothing_yet (check_script names)
+check_ends names =
+    sources_ends (length names) 0 nothing_yet 16777217 [] names _ (begins (length names) 0) (omega arith)
+    (λ h u files. told_ends (length names) 0 h (fronted files) _ u (λ tree. last_ends (length names) 0 h _ u.clean))
+
+units_ends : (names : List (List ℕ)) (limit : ℕ) → Along reasons (Ends true (length names) 0) nothing_yet (units_script names limit)
+units_ends names limit =
+    sources_ends (length names) 0 nothing_yet 16777217 [] names _ (begins (length names) 0) (omega arith)
+    (λ h u files. told_ends (length names) 0 h (fronted files) _ u (λ tree. told_ends (length names) 0 h (listed (map (λ f. f.name) files) limit tree) _ u (λ text. last_ends (length names) 0 h text u.clean)))
+
+build_ends : (names : List (List ℕ)) → Along reasons (Ends true (length names) 1) nothing_yet (build_script names)
+build_ends names =
+    sources_ends (length names) 1 nothing_yet 16777217 [] names _ (begins (length names) 1) (omega arith)
+    (λ h u files. told_ends (length names) 1 h (fronted files) _ u
+    (λ tree. or_stop_ends (length names) 1 h (accepted files) _ u (λ numbers. save_ends (length names) 1 h _ _ _ u.clean (omega (arith, u.none)) (λ c. last_ends (length names) 1 _ _ c))))
 
 run_ends : (name : List ℕ) (steps : ℕ) → Along reasons (Ends true 1 0) nothing_yet (run_script name steps)
 run_ends name steps = fetch_ends 1 0 nothing_yet _ _ _ (begins 1 0) (omega arith) (λ bytes u. judged_ends 1 0 _ name (limited valid_image bytes) _ u (λ image. printed_ends 1 0 _ (runs_of image steps) u))
@@ -227,7 +273,9 @@ gen_ends recipe =
     save_all_ends 0 count nothing_yet (files_of recipe.seed recipe.modules) _ (begins 0 count).clean (omega arith) (λ h c. last_ends 0 count h _ c)
 
 command_ends : (command : Command) → Along reasons (Ends true (reads_of command) (writes_of command)) nothing_yet (command_script command)
-command_ends Build = build_ends
+command_ends (Build names) = build_ends names
+command_ends (Check names) = check_ends names
+command_ends (Units names limit) = units_ends names limit
 command_ends (Run name steps) = run_ends name steps
 command_ends (Dump name) = dump_ends name
 command_ends (Link names output) = link_ends names output

@@ -2,8 +2,10 @@ pub mod Causes
 pub mod Following
 pub mod Gathering
 pub mod PrintsLinked
+pub mod ReadingSources
 pub mod Running
 pub mod Sent
 pub mod Top
 pub mod Wide
+pub mod WideSources
 pub mod Writing

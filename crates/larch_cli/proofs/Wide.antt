@@ -1,5 +1,5 @@
 -- No command goes by bytes past what its reads ask for.
-use Rattle.std.proofs.Common.{◌≡◌, ◌∙◌, ℕ, nat_lt, Bool, true, false, List, [], ◌∷◌, length, take, Option, Some, None, Result, Ok, Err, refl, sym, ap, arith}
+use Rattle.std.proofs.Common.{◌≡◌, ◌∙◌, ℕ, nat_lt, Bool, true, false, List, [], ◌∷◌, map, length, take, Option, Some, None, Result, Ok, Err, refl, sym, ap, arith, codes}
 use Rattle.std.proofs.lemmas.List.{take_all, length-take}
 use Rattle.lar_source.specs.declared.file.File.{File}
 use Rattle.listings.specs.Listed.{listing_at}
@@ -17,26 +17,20 @@ use Rattle.stack_vm.specs.declared.end.End.TheVariants as how
 use Rattle.symbol_link.specs.Linked.{linked}
 use Rattle.symbol_link.specs.declared.fault.LinkFault.{LinkFault}
 use Rattle.source_gen.specs.Sources.{files_of}
+use Rattle.build_units.specs.Listed.{listed}
 use Rattle.words.specs.Commands.{image_name}
 use Rattle.words.specs.Recipes.{Recipe}
 use Rattle.words.specs.declared.commands.Command.{Command}
-use Rattle.words.specs.declared.commands.Command.TheVariants.{Build, Run, Dump, Link, Gen}
-use Rattle.larch_cli.specs.Commands.{Steps, found, fetch, saved, save, say, or_stop, given, judged, linked_or, gather, printed, run_end, build_script, run_script, dump_script, link_script, save_all, gen_script, command_script, Request, Nothing, Named, request_script}
+use Rattle.words.specs.declared.commands.Command.TheVariants.{Build, Check, Units, Run, Dump, Link, Gen}
+use Rattle.larch_cli.specs.Commands.{Steps, found, fetch, saved, save, say, or_stop, given, judged, linked_or, or_told, gather, printed, run_end, build_script, check_script, units_script, run_script, dump_script, link_script, save_all, gen_script, command_script, Request, Nothing, Named, request_script}
 use Rattle.larch_cli.specs.Spelled.{accepted, image_of, limited, valid_image, with_file, summary}
 use Rattle.larch_cli.specs.declared.status.Status.{Status}
 use Rattle.larch_cli.specs.declared.status.Status.TheVariants as status
+use Rattle.larch_cli.proofs.WideSources.{sources_wide, told_wide}
 
 -- ---- what a front of a file spells
 
--- a source that is longer than the limit is seen to be so
-accepted-take : (most : ℕ) (bytes : List ℕ) → most ≡ 16777217 → accepted (take most bytes) ≡ accepted bytes
-accepted-take most bytes e =
-    elim (nat_lt (length bytes) most) as (λ b. nat_lt (length bytes) most ≡ b → accepted (take most bytes) ≡ accepted bytes) [
-      | true ↦ λ short. ap accepted (take_all most bytes (grind (arith, short)))
-      | false ↦ λ long. grind (arith, long, length-take most bytes, e)
-    ] refl
-
--- and so is any file
+-- a file that is longer than the limit is seen to be so
 too_long : {X : Type 0} (spelled : List ℕ → Result X BadFile) (bytes : List ℕ) → nat_lt 67108864 (length bytes) ≡ true → limited spelled bytes ≡ refused 67108864 Long
 too_long spelled bytes h = rw h refl
 
@@ -93,9 +87,18 @@ linked_wide (Err fault) k wide = tt
 
 -- ---- the commands
 
-build_wide : IsWide build_script
-build_wide =
-    fetch_wide _ 16777217 _ (λ bytes. ap (λ o. or_stop status.Unsupported o >>= λ numbers. save image_name (image_of numbers) >>= λ _. say summary) (accepted-take 16777217 bytes refl)) (λ bytes. or_stop_wide _ (accepted bytes) _ (λ numbers. save_wide _ _ _ (last_wide _)))
+check_wide : (names : List (List ℕ)) → IsWide (check_script names)
+check_wide names = sources_wide (λ files tree. say (codes "ok\n")) names (λ files tree. last_wide (codes "ok\n"))
+
+units_wide : (names : List (List ℕ)) (limit : ℕ) → IsWide (units_script names limit)
+units_wide names limit =
+    sources_wide (λ files tree. or_told (listed (map (λ f. f.name) files) limit tree) >>= say) names
+    (λ files tree. told_wide (λ files tree. say []) (listed (map (λ f. f.name) files) limit tree) say last_wide)
+
+build_wide : (names : List (List ℕ)) → IsWide (build_script names)
+build_wide names =
+    sources_wide (λ files tree. or_stop status.Unsupported (accepted files) >>= λ numbers. save image_name (image_of numbers) >>= λ _. say summary) names
+    (λ files tree. or_stop_wide _ (accepted files) _ (λ numbers. save_wide _ _ _ (last_wide _)))
 
 end_wide : (w : How) → IsWide (run_end w)
 unfolding IsWide
@@ -156,7 +159,9 @@ gen_wide : (recipe : Recipe) → IsWide (gen_script recipe)
 gen_wide recipe = save_all_wide (files_of recipe.seed recipe.modules) _ (last_wide _)
 
 command_wide : (command : Command) → IsWide (command_script command)
-command_wide Build = build_wide
+command_wide (Build names) = build_wide names
+command_wide (Check names) = check_wide names
+command_wide (Units names limit) = units_wide names limit
 command_wide (Run name steps) = run_wide name steps
 command_wide (Dump name) = dump_wide name
 command_wide (Link names output) = link_wide names output

@@ -1,6 +1,10 @@
 -- What each command does, as a script.
-use Rattle.std.specs.Prelude.{ℕ, if◌then◌else◌, Bool, true, false, List, [], ◌∷◌, length, is_some, Option, Some, None, Result, Ok, Err}
+use Rattle.std.specs.Prelude.{ℕ, ◌-◌, if◌then◌else◌, Bool, true, false, List, [], ◌∷◌, ◌++◌, map, length, is_some, Option, Some, None, Result, Ok, Err, codes}
+use Rattle.build_front.specs.Front.{fronted}
+use Rattle.build_units.specs.Listed.{listed}
+use Rattle.lar_source.specs.Diagnostic.{Diagnostic}
 use Rattle.lar_source.specs.declared.file.File.{File}
+use Rattle.lar_typed.specs.Trees.{PlainTree}
 use Rattle.listings.specs.Listed.{listing_at}
 use Rattle.make_flags.specs.Flags.{flags_of}
 use Rattle.make_flags.specs.declared.flags.Flags.{Flags}
@@ -18,10 +22,10 @@ use Rattle.stack_vm.specs.declared.end.End.{End as How}
 use Rattle.stack_vm.specs.declared.end.End.TheVariants as how
 use Rattle.symbol_link.specs.Linked.{linked}
 use Rattle.symbol_link.specs.declared.fault.LinkFault.{LinkFault}
-use Rattle.words.specs.Commands.{command_of, source_name, image_name}
+use Rattle.words.specs.Commands.{command_of, image_name}
 use Rattle.words.specs.Recipes.{Recipe}
 use Rattle.words.specs.declared.commands.Command.{Command}
-use Rattle.words.specs.declared.commands.Command.TheVariants.{Build, Run, Dump, Link, Gen}
+use Rattle.words.specs.declared.commands.Command.TheVariants.{Build, Check, Units, Run, Dump, Link, Gen}
 use Rattle.larch_cli.specs.Spelled.{accepted, image_of, limited, valid_image, with_file, summary, functions_line, wrote_line}
 use Rattle.larch_cli.specs.declared.status.Status.{Status}
 use Rattle.larch_cli.specs.declared.status.Status.TheVariants as status
@@ -76,8 +80,28 @@ linked_or (Err fault) = Stop (status.LinkFault fault)
 
 -- ---- commands
 
-abbrev pub build_script : Steps (Unit {0})
-build_script = fetch source_name 16777217 >>= λ bytes. or_stop status.Unsupported (accepted bytes) >>= λ numbers. save image_name (image_of numbers) >>= λ _. say summary
+-- Sources are read one after the other. So many bytes are still asked for, and these files were read before.
+abbrev pub gather_sources : ℕ → List File → List (List ℕ) → Steps (List File)
+gather_sources left files [] = End files
+gather_sources left files (name ∷ names) = fetch name left >>= λ bytes. gather_sources (left - length bytes) (files ++ record { name = name; bytes = bytes } ∷ []) names
+
+-- all bytes of the sources but those past one more than the limit of their sum
+abbrev pub fetch_sources : List (List ℕ) → Steps (List File)
+fetch_sources names = gather_sources 16777217 [] names
+
+-- a value, or the first diagnostic
+abbrev pub or_told : {X : Type 0} → Result X Diagnostic → Steps X
+or_told (Ok x) = End x
+or_told (Err d) = Stop (status.Diagnostic d)
+
+abbrev pub check_script : List (List ℕ) → Steps (Unit {0})
+check_script names = fetch_sources names >>= λ files. or_told (fronted files) >>= λ tree. say (codes "ok\n")
+
+abbrev pub build_script : List (List ℕ) → Steps (Unit {0})
+build_script names = fetch_sources names >>= λ files. or_told (fronted files) >>= λ tree. or_stop status.Unsupported (accepted files) >>= λ numbers. save image_name (image_of numbers) >>= λ _. say summary
+
+abbrev pub units_script : List (List ℕ) → ℕ → Steps (Unit {0})
+units_script names limit = fetch_sources names >>= λ files. or_told (fronted files) >>= λ tree. or_told (listed (map (λ f. f.name) files) limit tree) >>= say
 
 -- the end of a run
 abbrev pub end_gives : How → Result (Unit {0}) Status
@@ -121,7 +145,9 @@ abbrev pub gen_script : Recipe → Steps (Unit {0})
 gen_script recipe = save_all (files_of recipe.seed recipe.modules) >>= λ _. say (wrote_line (length (files_of recipe.seed recipe.modules)))
 
 abbrev pub command_script : Command → Steps (Unit {0})
-command_script Build = build_script
+command_script (Build names) = build_script names
+command_script (Check names) = check_script names
+command_script (Units names limit) = units_script names limit
 command_script (Run name steps) = run_script name steps
 command_script (Dump name) = dump_script name
 command_script (Link names output) = link_script names output

@@ -8,7 +8,7 @@ use Rattle.scripts.specs.Performing.{IsCalm, perform}
 use Rattle.sinks.specs.SinkState.{with_text}
 use Rattle.source_gen.specs.Sources.{files_of}
 use Rattle.words.specs.declared.commands.Command.{Command}
-use Rattle.words.specs.declared.commands.Command.TheVariants.{Build, Run, Dump, Link, Gen}
+use Rattle.words.specs.declared.commands.Command.TheVariants.{Build, Check, Units, Run, Dump, Link, Gen}
 use Rattle.larch_cli.specs.Commands.{Request, Nothing, Named, Steps, reasons}
 use Rattle.larch_cli.specs.Report.{Reports}
 use Rattle.larch_cli.specs.Status.{line_of, status_of}
@@ -78,7 +78,9 @@ Unchanged old new s = new.files.held ≡ old.files.held
 
 -- how many files a command reads at most: each that its words name, once
 abbrev pub reads_of : Command → ℕ
-reads_of Build = 1
+reads_of (Build names) = length names
+reads_of (Check names) = length names
+reads_of (Units names limit) = length names
 reads_of (Run name steps) = 1
 reads_of (Dump name) = 1
 reads_of (Link names output) = length names
@@ -86,7 +88,9 @@ reads_of (Gen recipe) = 0
 
 -- how many it writes
 abbrev pub writes_of : Command → ℕ
-writes_of Build = 1
+writes_of (Build names) = 1
+writes_of (Check names) = 0
+writes_of (Units names limit) = 0
 writes_of (Run name steps) = 0
 writes_of (Dump name) = 0
 writes_of (Link names output) = 1

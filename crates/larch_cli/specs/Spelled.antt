@@ -2,6 +2,7 @@
 use Rattle.std.specs.Prelude.{ℕ, nat_lt, if◌then◌else◌, List, [], ◌∷◌, ◌++◌, length, Option, None, Result, Ok, Err, ℤ, codes}
 use Rattle.std.specs.Fmt.{decimal}
 use Rattle.lar_lexer.specs.Reading.{thin}
+use Rattle.lar_source.specs.declared.file.File.{File}
 use Rattle.object_format.specs.Image.{Linked, image_spelling, version_field}
 use Rattle.object_format.specs.Object.{Unlinked}
 use Rattle.object_format.specs.Reading.{◌>>=◌, refused, unless, image_at}
@@ -13,9 +14,11 @@ use Rattle.larch_cli.specs.ThinImage.{thin_image}
 use Rattle.larch_cli.specs.declared.status.Status.{Status}
 use Rattle.larch_cli.specs.declared.status.Status.TheVariants.{BadFile as Bad}
 
--- the numbers of a source of at most 16,777,216 bytes in the thin form
-abbrev pub accepted : List ℕ → Option (List ℤ)
-accepted bytes = if nat_lt 16777216 (length bytes) then None else thin bytes
+-- the numbers of the sources, where these are one file in the thin form
+abbrev pub accepted : List File → Option (List ℤ)
+accepted [] = None
+accepted (f ∷ []) = thin f.bytes
+accepted (f ∷ another ∷ more) = None
 
 -- the bytes of the image that prints these numbers
 abbrev pub image_of : List ℤ → List ℕ

@@ -1,13 +1,14 @@
 -- What a status says.
 use Rattle.std.specs.Prelude.{ℕ, List, [], ◌++◌, codes, Result, Ok, Err}
 use Rattle.std.specs.Fmt.{decimal}
+use Rattle.lar_source.specs.Diagnostic.{line_of as diagnostic_line}
 use Rattle.object_format.specs.Words.{word_of}
 use Rattle.stack_vm.specs.declared.end.Kind.{Kind}
 use Rattle.stack_vm.specs.declared.end.Kind.TheVariants as kinds
 use Rattle.symbol_link.specs.declared.fault.LinkFault.{LinkFault as Fault}
 use Rattle.symbol_link.specs.declared.fault.LinkFault.TheVariants as faults
 use Rattle.larch_cli.specs.declared.status.Status.{Status}
-use Rattle.larch_cli.specs.declared.status.Status.TheVariants.{Done, Usage, Absent, FileFault, SinkFault, Memory, BadFile, Trapped, OutOfSteps, LinkFault, Unsupported}
+use Rattle.larch_cli.specs.declared.status.Status.TheVariants.{Done, Diagnostic, Usage, Absent, FileFault, SinkFault, Memory, BadFile, Trapped, OutOfSteps, LinkFault, Unsupported}
 
 -- A command that ran to its end is done.
 abbrev pub status_of : Result (Unit {0}) Status → Status
@@ -17,6 +18,7 @@ status_of (Err status) = status
 -- the number with which the process ends
 abbrev pub number_of : Status → ℕ
 number_of Done = 0
+number_of (Diagnostic d) = 1
 number_of Usage = 2
 number_of (Absent name) = 3
 number_of (FileFault name) = 4
@@ -42,16 +44,22 @@ link_line (faults.Undefined symbol object) = codes "larchc: link: " ++ (symbol +
 link_line faults.NoEntry = codes "larchc: link: no entry\n"
 link_line faults.TooLarge = codes "larchc: link: image over 67108864 bytes\n"
 
+-- the line for the error stream, but for a diagnostic's
+abbrev pub text_of : Status → List ℕ
+text_of Done = []
+text_of (Diagnostic d) = []
+text_of Usage = codes "larchc: usage\n"
+text_of (Absent name) = codes "larchc: " ++ name ++ codes ": not found\n"
+text_of (FileFault name) = codes "larchc: " ++ name ++ codes ": file fault\n"
+text_of SinkFault = []
+text_of Memory = codes "larchc: out of memory\n"
+text_of (BadFile name fault) = codes "larchc: " ++ (name ++ (codes ": bad file at " ++ (decimal fault.at ++ (codes ": " ++ (word_of fault.what ++ codes "\n")))))
+text_of (LinkFault fault) = link_line fault
+text_of (Trapped kind function offset) = codes "larchc: trap " ++ (kind_word kind ++ (codes " at " ++ (decimal function ++ (codes ":" ++ (decimal offset ++ codes "\n")))))
+text_of OutOfSteps = codes "larchc: out of steps\n"
+text_of Unsupported = codes "larchc: unsupported input\n"
+
 -- the line for the error stream
 abbrev pub line_of : Status → List ℕ
-line_of Done = []
-line_of Usage = codes "larchc: usage\n"
-line_of (Absent name) = codes "larchc: " ++ name ++ codes ": not found\n"
-line_of (FileFault name) = codes "larchc: " ++ name ++ codes ": file fault\n"
-line_of SinkFault = []
-line_of Memory = codes "larchc: out of memory\n"
-line_of (BadFile name fault) = codes "larchc: " ++ (name ++ (codes ": bad file at " ++ (decimal fault.at ++ (codes ": " ++ (word_of fault.what ++ codes "\n")))))
-line_of (LinkFault fault) = link_line fault
-line_of (Trapped kind function offset) = codes "larchc: trap " ++ (kind_word kind ++ (codes " at " ++ (decimal function ++ (codes ":" ++ (decimal offset ++ codes "\n")))))
-line_of OutOfSteps = codes "larchc: out of steps\n"
-line_of Unsupported = codes "larchc: unsupported input\n"
+line_of (Diagnostic d) = diagnostic_line d
+line_of s = text_of s

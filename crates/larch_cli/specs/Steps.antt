@@ -3,6 +3,9 @@ use Rattle.std.specs.Prelude.{◌≡◌, ℕ, ℤ, List, Result, Ok, Err}
 use Rattle.std.specs.declared.alloc.Global.{Global}
 use Rattle.std.specs.declared.vec.Vec.{Vec}
 use Rattle.files.specs.FilesState.{FilesState}
+use Rattle.lar_source.specs.declared.file.File.{File}
+use Rattle.lar_typed.specs.Trees.{PlainTree}
+use Rattle.lar_typed.specs.TreeView.{Contents, plain}
 use Rattle.listings.specs.Listed.{text_of}
 use Rattle.listings.specs.declared.listed.Listed.{Listed}
 use Rattle.object_format.specs.Image.{Linked}
@@ -48,6 +51,18 @@ image_shown (Err s) = Err s
 abbrev pub text_shown : Result Listed Status → Result (List ℕ) Status
 text_shown (Ok x) = Ok (text_of x)
 text_shown (Err s) = Err s
+
+abbrev pub sources_shown : Result (Vec File Global) Status → Result (List File) Status
+sources_shown (Ok files) = Ok files.items
+sources_shown (Err s) = Err s
+
+abbrev pub tree_shown : Result Contents Status → Result PlainTree Status
+tree_shown (Ok tree) = Ok (plain tree)
+tree_shown (Err s) = Err s
+
+abbrev pub lines_shown : Result (Vec ℕ Global) Status → Result (List ℕ) Status
+lines_shown (Ok text) = Ok text.items
+lines_shown (Err s) = Err s
 
 -- the refusal of a file, where there is memory for its name
 abbrev pub IsBadFile : List ℕ → BadFile → Status → Type 0

@@ -10,12 +10,13 @@
 //! The code of a command is a row of steps, each with a script of its own, and a step answers a value or the status
 //! that ends the command; so `?` stands where the script has `>>=`.
 //!
-//! The crate stands on words for command lines, on files, sinks and scripts for what commands work on, on lar_lexer for
-//! sources, on object_format, listings, symbol_link and stack_vm for objects and images, on source_gen for sources that
+//! The crate stands on words for command lines, on files, sinks and scripts for what commands work on, on build_front,
+//! build_units and lar_lexer for sources, on object_format, listings, symbol_link and stack_vm for objects and images, on source_gen for sources that
 //! are generated, and on make_flags for what make says.
 #![tactic(auto, using(crate::proofs::Following::following))]
 
 mod build;
+mod check;
 mod dump;
 mod generate;
 mod image;
@@ -25,8 +26,10 @@ mod plain;
 mod reporting;
 mod run;
 mod sending;
+mod sources;
 mod status;
 mod steps;
+mod units;
 
 pub use image::image_of_prints;
 pub use plain::larch_plain;

@@ -98,6 +98,7 @@ fn a_link_that_meets_a_fault_says_so(rt: HostRuntime) -> Result<(), Fail> {
 #[test]
 fn a_link_that_is_too_large_says_so(rt: HostRuntime) -> Result<(), Fail> {
     let line = Status::LinkFault(symbol_link::LinkFault::TooLarge).line(rt.alloc())?;
-    assert_eq!(rt; line.as_str(), "larchc: link: image over 67108864 bytes\n");
+    let wanted = b"larchc: link: image over 67108864 bytes\n";
+    assert_eq!(rt; line.as_slice(), wanted.as_slice());
     Ok(())
 }

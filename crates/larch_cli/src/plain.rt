@@ -11,11 +11,13 @@ ghost use Rattle.larch_cli.specs.Steps.{OnBoth};
 
 use crate::Status;
 use crate::build::build;
+use crate::check::check;
 use crate::dump::dump;
 use crate::generate::generate;
 use crate::link::link_files;
 use crate::reporting::report;
 use crate::run::run_image;
+use crate::units::units;
 use files::Files;
 use make_flags::{Flags, Jobserver, read_flags};
 use sinks::Sink;
@@ -41,7 +43,9 @@ fn run_command<F: Files, S: Sink>(
     ensures { OnBoth (command_script command) (F.told files.old) (F.told files.new) (S.told out.old) (S.told out.new) result }
 {
     match command {
-        Command::Build => build(alloc, files, out),
+        Command::Build(sources) => build(alloc, &sources, files, out),
+        Command::Check(sources) => check(alloc, &sources, files, out),
+        Command::Units(sources, limit) => units(alloc, &sources, &limit, files, out),
         Command::Run(name, steps) => run_image(alloc, &name, steps, files, out),
         Command::Dump(name) => dump(alloc, &name, files, out),
         Command::Link(names, output) => link_files(alloc, &names, &output, files, out),
@@ -77,9 +81,9 @@ fn status_of(ended: Result<(), Status>) -> Status
 }
 
 /// Serves a command line, given as the words behind the program's name, over the files and the streams that are handed
-/// in, with the text of `MAKEFLAGS` where make has set it. So far `build main.larch --jobs 1`, `run NAME` with
-/// `--steps N`, `dump NAME`, `link NAME..` with `--out NAME` and `gen SEED MODULES` are served, and no others. Where make
-/// is run dry nothing is done. It waits for nobody and always returns.
+/// in, with the text of `MAKEFLAGS` where make has set it. So far `build NAME.larch ..` with `--jobs 1`, `check NAME.larch ..`,
+/// `units NAME.larch ..` with `--units N`, `run NAME` with `--steps N`, `dump NAME`, `link NAME..` with `--out NAME` and `gen SEED MODULES` are served, and no others.
+/// Where make is run dry nothing is done. It waits for nobody and always returns.
 pub fn larch_plain<F: Files, S: Sink>(
     alloc: Global,
     words: &[String],

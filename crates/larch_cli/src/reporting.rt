@@ -30,7 +30,7 @@ pub fn report<S: Sink>(alloc: Global, err: &mut S, wanted: Status) -> Status
         return wanted;
     }
     match wanted.line(alloc) {
-        Ok(line) => put_line(alloc, err, line.as_bytes(), wanted),
+        Ok(line) => put_line(alloc, err, line.as_slice(), wanted),
         Err(_) => put_line(alloc, err, b"larchc: out of memory\n", Status::Memory),
     }
 }

@@ -125,37 +125,6 @@ fn images_are_run(rt: HostRuntime) -> Result<(), Fail> {
 }
 
 #[test]
-fn words_of_a_run_are_read(rt: HostRuntime) -> Result<(), Fail> {
-    let alloc = rt.alloc();
-    let cases: [&[&str]; 18] = [
-        &["run"],
-        &["run", ""],
-        &["run", ".lrpx"],
-        &["run", "a/lrpx"],
-        &["run", "a.lrpx", "3"],
-        &["run", "a.lrpx", "--steps"],
-        &["run", "a.lrpx", "--steps", "0"],
-        &["run", "a.lrpx", "--steps", "1000000000001"],
-        &["run", "a.lrpx", "--steps", "000000000000000000001"],
-        &["run", "a.lrpx", "--steps", "3x"],
-        &["run", "a.lrpx", "--steps", "3", "3"],
-        &["run", "a.lrpx", "--steps", "3", "--steps=3"],
-        &["run", "a.lrpx", "--steps="],
-        &["run", "--steps", "--", "a.lrpx"],
-        &["run", "a.lrpx", "--", "--steps", "3"],
-        &["run", "a.lrpx", "--step", "3"],
-        &["run", "-s", "a.lrpx"],
-        &["run", "a.lrpx", "-"],
-    ];
-    for words in cases {
-        let left = run(alloc, words, &SEVEN, &[], &[])?;
-        assert_eq!(rt; left.number, 2);
-        assert_eq!(rt; left.err.as_slice(), b"larchc: usage\n".as_slice());
-    }
-    Ok(())
-}
-
-#[test]
 fn a_run_that_meets_a_fault_says_so(rt: HostRuntime) -> Result<(), Fail> {
     let alloc = rt.alloc();
     let left = run(alloc, &["run", "a.lrpx"], &SEVEN, &[0], &[])?;

@@ -3,9 +3,11 @@
 
 ghost use Rattle.std.specs.Prelude.{◌≡◌, ◌++◌, IfOk, codes, string_bytes};
 ghost use Rattle.std.specs.Fmt.{decimal};
-ghost use Rattle.larch_cli.specs.Status.{kind_word, line_of, link_line, number_of};
+ghost use Rattle.lar_source.specs.Diagnostic.{line_of as diagnostic_line};
+ghost use Rattle.larch_cli.specs.Status.{kind_word, line_of, link_line, number_of, text_of};
 
-use lar_bytes::Text;
+use lar_bytes::{Bytes, Text};
+use lar_source::Diag;
 use object_format::BadFile;
 use stack_vm::Kind;
 use std::alloc::{AllocError, Global};
@@ -16,6 +18,8 @@ use symbol_link::LinkFault;
 pub enum Status {
     /// It is done.
     Done,
+    /// The sources have this first fault.
+    Diagnostic(Diag),
     /// The words are none that are served.
     Usage,
     /// The file with this name, which the command reads, is not there.
@@ -34,7 +38,7 @@ pub enum Status {
     Trapped(Kind, u32, u32),
     /// The run did not end within its steps.
     OutOfSteps,
-    /// The sources are none that can be built so far.
+    /// The sources are none that can be built so far: they are not one file in the thin form.
     Unsupported,
 }
 
@@ -90,6 +94,14 @@ fn trap_line(alloc: Global, kind: &str, function: u32, offset: u32) -> Result<St
     format!(in alloc; "larchc: trap {kind} at {function}:{offset}\n")
 }
 
+fn diagnostic_line(alloc: Global, diag: &Diag) -> Result<Bytes, AllocError>
+    ensures { IfOk result (λ line. line ≡ diagnostic_line diag.now) }
+{
+    let mut line = Bytes::new(alloc);
+    diag.write(alloc, &mut line)?;
+    Ok(line)
+}
+
 impl Status {
     /// The number with which the process ends.
     pub fn number(&self) -> u8
@@ -97,6 +109,7 @@ impl Status {
     {
         match self {
             Status::Done => 0,
+            Status::Diagnostic(_) => 1,
             Status::Usage => 2,
             Status::Absent(_) => 3,
             Status::FileFault(_) => 4,
@@ -110,12 +123,13 @@ impl Status {
         }
     }
 
-    /// Its line for the error stream, which is empty where there is nothing to say or no stream to say it on.
-    pub fn line(&self, alloc: Global) -> Result<String, AllocError>
-        ensures { IfOk result (λ line. string_bytes line ≡ line_of self.now) }
+    // The line, but for a diagnostic's.
+    fn text(&self, alloc: Global) -> Result<String, AllocError>
+        ensures { IfOk result (λ line. string_bytes line ≡ text_of self.now) }
     {
         match self {
             Status::Done => Ok(String::new(alloc)),
+            Status::Diagnostic(_) => Ok(String::new(alloc)),
             Status::SinkFault => Ok(String::new(alloc)),
             Status::Usage => format!(in alloc; "larchc: usage\n"),
             Status::Absent(name) => {
@@ -136,6 +150,23 @@ impl Status {
             }
             Status::OutOfSteps => format!(in alloc; "larchc: out of steps\n"),
             Status::Unsupported => format!(in alloc; "larchc: unsupported input\n"),
+        }
+    }
+
+    fn text_bytes(&self, alloc: Global) -> Result<Bytes, AllocError>
+        ensures { IfOk result (λ line. line ≡ text_of self.now) }
+    {
+        let text = self.text(alloc)?;
+        Bytes::copied(alloc, text.as_bytes())
+    }
+
+    /// Its line for the error stream, which is empty where there is nothing to say or no stream to say it on.
+    pub fn line(&self, alloc: Global) -> Result<Bytes, AllocError>
+        ensures { IfOk result (λ line. line ≡ line_of self.now) }
+    {
+        match self {
+            Status::Diagnostic(diag) => diagnostic_line(alloc, diag),
+            _ => self.text_bytes(alloc),
         }
     }
 }

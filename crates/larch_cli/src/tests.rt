@@ -142,34 +142,43 @@ fn refusals_leave_the_files(rt: HostRuntime) -> Result<(), Fail> {
     let alloc = rt.alloc();
     let left = run(alloc, &BUILD, None, NONE)?;
     check(&rt, &left, 3, "", "larchc: main.larch: not found\n", None);
-    let others: [&[u8]; 3] = [
-        b"fn main() { let x: i64 = 1; }",
-        b"fn main() { print(9223372036854775808); }",
-        b"",
+    let others: [(&[u8], u8, &str); 3] = [
+        (
+            b"fn main() { let x: i64 = 1; }",
+            13,
+            "larchc: unsupported input\n",
+        ),
+        (
+            b"fn main() { print(9223372036854775808); }",
+            1,
+            "main.larch:1:19: E10 past the limit 9223372036854775807\n",
+        ),
+        (b"", 1, "main.larch:1:1: E09 no lawful main\n"),
     ];
-    for source in others {
+    for (source, number, line) in others {
         let left = run(alloc, &BUILD, Some(source), NONE)?;
-        check(&rt, &left, 13, "", "larchc: unsupported input\n", None);
+        check(&rt, &left, number, "", line, None);
     }
     Ok(())
 }
 
 #[test]
-fn other_words_are_refused(rt: HostRuntime) -> Result<(), Fail> {
+fn sources_are_checked(rt: HostRuntime) -> Result<(), Fail> {
     let alloc = rt.alloc();
-    let cases: [&[&str]; 7] = [
-        &[],
-        &["build"],
-        &["build", "main.larch"],
-        &["build", "main.larch", "--jobs", "2"],
-        &["build", "other.larch", "--jobs", "1"],
-        &["check", "main.larch", "--jobs", "1"],
-        &["build", "main.larch", "--jobs", "1", "1"],
+    let wrong = "main.larch:1:19: E04 unknown name x\n";
+    // The source, the calls of out that fail, the number, what stands on out and on err.
+    let cases: [(&[u8], &[u64], u8, &str, &str); 3] = [
+        (PRINTS_7, &[], 0, "ok\n", ""),
+        (PRINTS_7, &[0], 6, "", ""),
+        (b"fn main() { print(x); }", &[], 1, "", wrong),
     ];
-    for words in cases {
-        let left = run(alloc, words, Some(PRINTS_7), NONE)?;
-        check(&rt, &left, 2, "", "larchc: usage\n", None);
+    for (source, out, number, text, line) in cases {
+        let failing = Failing { out, ..NONE };
+        let left = run(alloc, &["check", "main.larch"], Some(source), failing)?;
+        check(&rt, &left, number, text, line, None);
     }
+    let left = run(alloc, &["check", "main.larch", "a.larch"], Some(b"$"), NONE)?;
+    check(&rt, &left, 3, "", "larchc: a.larch: not found\n", None);
     Ok(())
 }
 
@@ -244,27 +253,6 @@ fn a_line_is_put_byte_by_byte(rt: HostRuntime) -> Result<(), Fail> {
     let status = larch_plain(alloc, &[], None, &mut files, &mut out, &mut err);
     assert_eq!(rt; status.number(), 2);
     assert_eq!(rt; err.sink.bytes(), b"larchc: usage\n".as_slice());
-    Ok(())
-}
-
-// `fn main() { print(7); }` with blanks behind it, up to so many bytes.
-fn padded(alloc: Global, len: u64) -> Result<Vec<u8>, AllocError> {
-    let mut source = PRINTS_7.to_vec(alloc)?;
-    for _ in 23..len {
-        source.push(b' ')?;
-    }
-    Ok(source)
-}
-
-#[test]
-fn a_source_has_a_limit(rt: HostRuntime) -> Result<(), Fail> {
-    let alloc = rt.alloc();
-    let mut source = padded(alloc, 16_777_216)?;
-    let left = run(alloc, &BUILD, Some(&source), NONE)?;
-    check(&rt, &left, 0, "units 1 made 1 reused 0\n", "", Some(&SEVEN));
-    source.push(b' ')?;
-    let left = run(alloc, &BUILD, Some(&source), NONE)?;
-    check(&rt, &left, 13, "", "larchc: unsupported input\n", None);
     Ok(())
 }
 

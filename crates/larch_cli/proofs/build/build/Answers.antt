@@ -2,27 +2,42 @@ use Rattle.std.proofs.Common.{◌≡◌, rules}
 use Rattle.std.proofs.lemmas.Result.{err_from_is_err_and}
 use Rattle.scripts.proofs.Following.{failed, follows_on, wanted}
 use Rattle.larch_cli.specs.Spelled.{image_of}
+use Rattle.larch_cli.proofs.ReadingSources.{are_named, few}
 use Rattle.larch_cli.proofs.build.build.Goals as goal
 
-pub returns-in_err-bytes : goal.returns-in_err-bytes
-returns-in_err-bytes g c err = failed _ _ _ _ _ _ _ (err_from_is_err_and _ c.from_residual.ensures.1) (c.in_err-bytes.ensures _ err)
+pub returns-in_err-sources : goal.returns-in_err-sources
+returns-in_err-sources g c err = failed _ _ _ _ _ _ _ (err_from_is_err_and _ c.from_residual.ensures.1) (rw c.as_slice.ensures.names at c.in_err-sources.ensures.follows _ err)
+
+pub typed-requires-clause-few : goal.typed-requires-clause-few
+typed-requires-clause-few g c = rw c.deref.ensures.value (few c.in_ok-sources.sources.items c.as_slice.result.now c.as_slice.ensures.lawful c.in_ok-sources.ensures.named)
+
+pub typed-requires-clause-named : goal.typed-requires-clause-named
+typed-requires-clause-named g c = rw c.deref.ensures.value (are_named c.in_ok-sources.sources.items c.as_slice.result.now c.as_slice.ensures.lawful c.in_ok-sources.ensures.named)
+
+pub returns-in_err-typed : goal.returns-in_err-typed
+returns-in_err-typed g c err =
+    follows_on _ _ _ _ _ _ _ _ (rw c.as_slice.ensures.names at c.in_ok-sources.ensures.follows _ err) (failed _ _ _ _ _ _ _ (err_from_is_err_and _ c.from_residual-in_err-typed.ensures.1) (rw c.deref.ensures.value at c.in_err-typed.ensures _))
 
 pub returns-in_err-numbers : goal.returns-in_err-numbers
 returns-in_err-numbers g c err =
-    follows_on _ _ _ _ _ _ _ _ (c.in_ok-bytes.ensures _ err) (failed _ _ _ _ _ _ _ (err_from_is_err_and _ c.from_residual-in_err-numbers.ensures.1) (c.in_err-numbers.ensures.follows _))
+    follows_on _ _ _ _ _ _ _ _ (rw c.as_slice.ensures.names at c.in_ok-sources.ensures.follows _ err) (follows_on _ _ _ _ _ _ _ _ (rw c.deref.ensures.value at c.in_ok-typed.ensures _)
+    (failed _ _ _ _ _ _ _ (err_from_is_err_and _ c.from_residual-in_err-numbers.ensures.1) (rw c.deref-2.ensures.value at c.in_err-numbers.ensures.follows _)))
 
 pub returns-in_err-image : goal.returns-in_err-image
 returns-in_err-image g c err =
-    follows_on _ _ _ _ _ _ _ _ (c.in_ok-bytes.ensures _ err) (follows_on _ _ _ _ _ _ _ _ (c.in_ok-numbers.ensures.follows _) (wanted _ _ _ _ (err_from_is_err_and _ c.from_residual-in_err-image.ensures.1)))
+    follows_on _ _ _ _ _ _ _ _ (rw c.as_slice.ensures.names at c.in_ok-sources.ensures.follows _ err) (follows_on _ _ _ _ _ _ _ _ (rw c.deref.ensures.value at c.in_ok-typed.ensures _)
+    (follows_on _ _ _ _ _ _ _ _ (rw c.deref-2.ensures.value at c.in_ok-numbers.ensures.follows _) (wanted _ _ _ _ (err_from_is_err_and _ c.from_residual-in_err-image.ensures.1))))
 
 pub returns-in_err-write_file : goal.returns-in_err-write_file
 returns-in_err-write_file g c err =
-    let made : c.as_slice.result.now ≡ image_of c.in_ok-numbers.numbers.items = search rules in
-    follows_on _ _ _ _ _ _ _ _ (c.in_ok-bytes.ensures _ err) (follows_on _ _ _ _ _ _ _ _ (c.in_ok-numbers.ensures.follows _)
-    (failed _ _ _ _ _ _ _ (err_from_is_err_and _ c.from_residual-in_err-write_file.ensures.1) (rw made at c.in_err-write_file.ensures _ err)))
+    let made : c.as_slice-2.result.now ≡ image_of c.in_ok-numbers.numbers.items = search rules in
+    follows_on _ _ _ _ _ _ _ _ (rw c.as_slice.ensures.names at c.in_ok-sources.ensures.follows _ err) (follows_on _ _ _ _ _ _ _ _ (rw c.deref.ensures.value at c.in_ok-typed.ensures _)
+    (follows_on _ _ _ _ _ _ _ _ (rw c.deref-2.ensures.value at c.in_ok-numbers.ensures.follows _)
+    (failed _ _ _ _ _ _ _ (err_from_is_err_and _ c.from_residual-in_err-write_file.ensures.1) (rw made at c.in_err-write_file.ensures _ err))))
 
 pub returns : goal.returns
 returns g c err =
-    let made : c.as_slice.result.now ≡ image_of c.in_ok-numbers.numbers.items = search rules in
-    follows_on _ _ _ _ _ _ _ _ (c.in_ok-bytes.ensures _ err) (follows_on _ _ _ _ _ _ _ _ (c.in_ok-numbers.ensures.follows _)
-    (follows_on _ _ _ _ _ _ _ _ (rw made at c.in_ok-write_file.ensures _ err) (c.put_text.ensures _ err)))
+    let made : c.as_slice-2.result.now ≡ image_of c.in_ok-numbers.numbers.items = search rules in
+    follows_on _ _ _ _ _ _ _ _ (rw c.as_slice.ensures.names at c.in_ok-sources.ensures.follows _ err) (follows_on _ _ _ _ _ _ _ _ (rw c.deref.ensures.value at c.in_ok-typed.ensures _)
+    (follows_on _ _ _ _ _ _ _ _ (rw c.deref-2.ensures.value at c.in_ok-numbers.ensures.follows _)
+    (follows_on _ _ _ _ _ _ _ _ (rw made at c.in_ok-write_file.ensures _ err) (c.put_text.ensures _ err))))
