@@ -1,0 +1,2 @@
+pub mod HeldInOrder
+mod Walks

@@ -1,0 +1,9 @@
+pub mod FaultCounts
+pub mod Finding
+pub mod Lengths
+pub mod LongerFiles
+pub mod Places
+pub mod PruneSteps
+pub mod RecordLaws
+pub mod RecordShapes
+pub mod StoreLaws

@@ -1,0 +1,11 @@
+pub use Rattle.keepers.specs.KeeperCalls
+pub use Rattle.keepers.specs.KeeperNoted
+pub use Rattle.keepers.specs.KeeperState
+pub use Rattle.keepers.specs.Listing
+pub use Rattle.keepers.specs.MemoryKeeperState
+pub mod Faithful
+pub mod Pruning
+pub mod RecordReading
+pub mod Records
+pub mod Sealed
+pub mod Store
