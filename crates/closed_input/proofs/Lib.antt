@@ -1,0 +1,13 @@
+pub mod Fitting
+pub mod Words
+pub mod Asserted
+pub mod Callees
+pub mod Expressed
+pub mod Stated
+pub mod Distinct
+pub mod Listed
+pub mod Found
+pub mod Numbered
+pub mod Signed
+pub mod Kept
+pub mod Worked

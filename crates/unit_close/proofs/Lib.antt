@@ -1,0 +1,12 @@
+pub mod Measured
+pub mod Offsets
+pub mod ExprLists
+pub mod StmtLists
+pub mod Cutting
+pub mod Agreeing
+pub mod Ahead
+pub mod ExprsClose
+pub mod StmtsClose
+pub mod Numbered
+pub mod Itemised
+pub mod LocalWords
