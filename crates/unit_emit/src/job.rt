@@ -25,7 +25,7 @@ pub fn make<L: Ledger>(
     level: u8,
     steps: &mut Steps<L>,
 ) -> Result<Bytes, OrMemory<UnitFault>>
-    requires { level ≤ 1 }
+    requires { level ≤ 2 }
     ensures object { Answers (λ b. b) result (emitted (optimised level (unit_view unit))) }
     ensures busy { IsSameBusy busy.old busy.new }
     ensures steps { steps.new ≡ steps.old + 1 }

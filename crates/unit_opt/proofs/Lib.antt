@@ -2,4 +2,3 @@ pub mod FoldInRange
 pub mod Folds
 pub mod Kept
 pub mod Lists
-pub mod Mapped

@@ -1,7 +1,7 @@
 use Rattle.std.proofs.Common.{sym, ap, ◌∙◌}
 use Rattle.unit_ir.specs.ExprView.{expr_view, exprs_of, exprs_view}
 use Rattle.unit_opt.proofs.Folds.{folded_view, fold_exprs-exprs_view}
-use Rattle.unit_opt.proofs.Mapped.{all_made}
+use Rattle.opt_slots.proofs.Mapped.{all_made}
 use Rattle.unit_opt.proofs.fold.+fold.Goals as goal
 
 pub fold_exprs-returns : goal.fold_exprs-returns

@@ -1,5 +1,6 @@
 use Rattle.std.proofs.Common.{arith}
-use Rattle.unit_opt.proofs.Lists.{kept_ahead, cost_of_last}
+use Rattle.opt_slots.proofs.Pushed.{cost_of_last}
+use Rattle.unit_opt.proofs.Lists.{kept_ahead}
 use Rattle.unit_opt.proofs.fold_stmts.+fold.Goals as goal
 
 pub fold_ahead-fold_stmt-requires : goal.fold_ahead-fold_stmt-requires

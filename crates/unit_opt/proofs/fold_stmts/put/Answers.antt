@@ -1,5 +1,5 @@
 use Rattle.std.proofs.Common.{refl}
-use Rattle.unit_opt.proofs.Lists.{stmts_view-pushed}
+use Rattle.opt_slots.proofs.Pushed.{stmts_view-pushed}
 use Rattle.unit_opt.proofs.fold_stmts.put.Goals as goal
 
 pub returns : goal.returns

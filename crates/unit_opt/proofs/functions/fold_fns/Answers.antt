@@ -1,7 +1,7 @@
 use Rattle.std.proofs.Common.{map, sym, ap, ◌∙◌}
 use Rattle.unit_ir.specs.Units.{fn_view}
 use Rattle.unit_opt.proofs.Folds.{folded_fn, map-folded_fn}
-use Rattle.unit_opt.proofs.Mapped.{all_made}
+use Rattle.opt_slots.proofs.Mapped.{all_made}
 use Rattle.unit_opt.proofs.functions.fold_fns.Goals as goal
 
 pub returns : goal.returns

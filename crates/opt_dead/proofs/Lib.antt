@@ -1,0 +1,3 @@
+pub mod Dropped
+mod Examples
+pub mod InRange
