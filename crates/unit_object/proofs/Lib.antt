@@ -1,0 +1,5 @@
+pub mod Answered
+pub mod Faults
+pub mod Kept
+pub mod Shown
+pub mod Worked

@@ -1,0 +1,4 @@
+pub mod Counted
+pub mod FaultPlace
+pub mod Interface
+pub mod UnitObject
